@@ -1,0 +1,66 @@
+-- Laws of stuffing: what callers use in place of its text.
+use mathlib.Core.Path.{_≡_, refl, sym, ap}
+use mathlib.Core.Bool.{Bool, true, false, cond}
+use mathlib.Core.List.{List, [], _∷_, _++_}
+use Prim.Native.Nat.{ℕ, suc, _+_, _≤_}
+use native.Mathlib.Omega.{arith}
+use borrow.Author.Tests.{eq-eqb, ne-eqb}
+use lib.Dec.{eqb}
+use lib.ListN.{length}
+use Rattle.octets.specs.Stuffing.{DLE, stuffed, dles}
+
+pub stuffed-nil : stuffed [] ≡ []
+unfolding stuffed
+stuffed-nil = refl
+
+-- a byte that is 10h, and one that is not
+pub stuffed-dle : (b : ℕ) (s : List ℕ) → b ≡ DLE → stuffed (b ∷ s) ≡ b ∷ b ∷ stuffed s
+unfolding stuffed
+stuffed-dle b s e = rw (eq-eqb b DLE e)
+
+pub stuffed-other : (b : ℕ) (s : List ℕ) → (b ≡ DLE → ⊥) → stuffed (b ∷ s) ≡ b ∷ stuffed s
+unfolding stuffed
+stuffed-other b s e = rw (ne-eqb b DLE e)
+
+pub stuffed-append : (a b : List ℕ) → stuffed (a ++ b) ≡ stuffed a ++ stuffed b
+unfolding stuffed
+stuffed-append [] b = refl
+stuffed-append (x ∷ a) b = go (eqb x DLE) (stuffed-append a b)
+  where
+    go : (t : Bool) → stuffed (a ++ b) ≡ stuffed a ++ stuffed b
+        → cond t (x ∷ x ∷ stuffed (a ++ b)) (x ∷ stuffed (a ++ b)) ≡ cond t (x ∷ x ∷ stuffed a) (x ∷ stuffed a) ++ stuffed b
+    go true e = ap (λ l. x ∷ x ∷ l) e
+    go false e = ap (λ l. x ∷ l) e
+
+-- n bytes, k of them 10h, are n + k when stuffed
+pub length-stuffed : (s : List ℕ) → length (stuffed s) ≡ length s + dles s
+unfolding stuffed dles
+length-stuffed [] = refl
+length-stuffed (b ∷ s) = go (eqb b DLE) (length-stuffed s)
+  where
+    go : (t : Bool) → length (stuffed s) ≡ length s + dles s
+        → length (cond t (b ∷ b ∷ stuffed s) (b ∷ stuffed s)) ≡ suc (length s) + (cond t 1 0 + dles s)
+    go true e = omega arith
+    go false e = omega arith
+
+pub dles-append : (a b : List ℕ) → dles (a ++ b) ≡ dles a + dles b
+unfolding dles
+dles-append [] b = omega arith
+dles-append (x ∷ a) b = omega (arith, dles-append a b)
+
+pub dles-dle : (b : ℕ) → b ≡ DLE → dles (b ∷ []) ≡ 1
+unfolding dles
+dles-dle b e = rw (eq-eqb b DLE e)
+
+pub dles-other : (b : ℕ) → (b ≡ DLE → ⊥) → dles (b ∷ []) ≡ 0
+unfolding dles
+dles-other b e = rw (ne-eqb b DLE e)
+
+pub dles-le : (s : List ℕ) → dles s ≤ length s
+unfolding dles
+dles-le [] = omega arith
+dles-le (b ∷ s) = go (eqb b DLE) (dles-le s)
+  where
+    go : (t : Bool) → dles s ≤ length s → cond t 1 0 + dles s ≤ suc (length s)
+    go true h = omega arith
+    go false h = omega arith

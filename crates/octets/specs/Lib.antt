@@ -1,0 +1,4 @@
+pub mod Number
+pub mod Signed
+pub mod Stuffing
+pub mod Placing
