@@ -25,25 +25,15 @@ entries i h w m f = record { kind = record { id = i; short = h; long = h; header
 
 unfoldable pub table : List Row
 table =
-    only 0x1B 0 free
-    ∷ only 0x1E 0 free
-    ∷ only 0x26 0 free
-    ∷ only 0x54 0 free
-    ∷ oneOf 0x21 0 1 free
-    ∷ oneOf 0x24 0 1 free
-    ∷ oneOf 0x27 0 1 free
-    ∷ oneOf 0x2A 0 1 free
-    ∷ oneOf 0x1F 0 1 in1F
-    ∷ only 0xF4 1 free
+    only 0x1B 0 free ∷ only 0x1E 0 free ∷ only 0x26 0 free ∷ only 0x54 0 free
+    ∷ oneOf 0x21 0 1 free ∷ oneOf 0x24 0 1 free ∷ oneOf 0x27 0 1 free ∷ oneOf 0x2A 0 1 free ∷ oneOf 0x1F 0 1 in1F ∷ only 0xF4 1 free
     ∷ only 0x20 2 in20
     ∷ oneOf 0x23 0 2 in23
     ∷ only 0x43 6 in43
     ∷ only 0x46 10 in46
     ∷ only 0x47 168 in47
     ∷ oneOf 0x49 93 130 in49
-    ∷ only 0x4A 33 free
-    ∷ only 0x4B 42 free
-    ∷ only 0xEB 26 inEB
+    ∷ only 0x4A 33 free ∷ only 0x4B 42 free ∷ only 0xEB 26 inEB
     ∷ entries 0x52 0 7 75 in52
     ∷ []
 

@@ -1,0 +1,11 @@
+pub mod Classes
+pub mod Account
+pub mod Reading
+pub mod Resync
+pub mod Mirror
+pub mod Walking
+pub mod Outcome
+pub mod Each
+pub mod Heard
+pub mod Latest
+pub mod Demand3

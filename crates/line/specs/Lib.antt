@@ -1,0 +1,4 @@
+pub mod Frame
+pub mod Table
+pub mod Record
+pub mod Calls
