@@ -9,3 +9,8 @@ pub mod Each
 pub mod Heard
 pub mod Latest
 pub mod Demand3
+pub mod Cases
+pub mod Runs
+pub mod SliceSteps
+pub mod Cutting
+pub mod Listed
