@@ -11,9 +11,8 @@ use Rattle.octets.proofs.StuffingLaws.{stuffed-nil}
 use Rattle.line.specs.Frame.{Mode, Class, classOf, judge}
 use Rattle.line.specs.Frame.Mode.{plain, summed}
 use Rattle.line.specs.Frame.Class.{dle, etx, sum, other}
-use Rattle.line.specs.Table.{State, Event, Step, capacity, pending, go, refuse, ends, join, row, next, after, events, skipped, accepts, refuses}
+use Rattle.line.specs.Table.{State, Event, Step, capacity, pending, go, refuse, verdict, ends, join, row, next, after, events, skipped, total, accepts, refuses}
 use Rattle.line.specs.Table.State.{W, WD, F, FD, C0, C1, E, ED}
-use Rattle.line.specs.Table.Event.{message, refusal}
 use Rattle.line.proofs.Classes.{length-snoc}
 
 pub cond-both : (P : Step → Type 0) (t : Bool) (x y : Step) → P x → P y → P (cond t x y)
@@ -33,8 +32,7 @@ joined s id d b p =
 ended : (s : State) (v id : ℕ) (d : List ℕ) → Balanced s (ends v id d (pending s + 1))
 ended s v id d = by-verdict (eqb v 0)
   where
-    by-verdict : (t : Bool)
-        → Balanced s (record { to = W; event = cond t (message id d (pending s + 1)) (refusal v id (pending s + 1)); outside = 0 })
+    by-verdict : (t : Bool) → Balanced s (record { to = W; event = verdict t v id d (pending s + 1); outside = 0 })
     by-verdict true = omega arith
     by-verdict false = omega arith
 
@@ -70,11 +68,6 @@ balanced m (ED id d c1 c2) b dle e = omega arith
 balanced m (ED id d c1 c2) b etx e = ended (ED id d c1 c2) (judge summed id d c1 c2) id d
 balanced m (ED id d c1 c2) b sum e = omega arith
 balanced m (ED id d c1 c2) b other e = omega (arith, no-data)
-
--- f of every event, added up
-abbrev pub total : (Event → ℕ) → List Event → ℕ
-total f [] = 0
-total f (e ∷ es) = f e + total f es
 
 pub conserved : (m : Mode) (s : State) (bs : List ℕ)
     → pending s + length bs

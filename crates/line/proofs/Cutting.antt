@@ -12,16 +12,16 @@ use Rattle.octets.specs.Stuffing.{DLE, stuffed}
 use Rattle.octets.proofs.StuffingLaws.{stuffed-nil}
 use Rattle.checksum.specs.Checksum.{c1Of, c2Of}
 use Rattle.kinds.specs.Kinds.{content}
-use Rattle.line.specs.Frame.{ETX, SUM, Mode, Class, classOf, frame, judge}
+use Rattle.line.specs.Frame.{ETX, SUM, Mode, Class, classOf, frame, agrees, judge}
 use Rattle.line.specs.Frame.Mode.{plain, summed}
 use Rattle.line.specs.Frame.Class.{dle, etx, sum, other}
-use Rattle.line.specs.Table.{State, Event, Step, capacity, byEvent, pending, go, skip, refuse, reopen, ends, join, row, next, after, events, skipped, accepts, refuses}
+use Rattle.line.specs.Table.{State, Event, Step, capacity, byEvent, pending, go, skip, refuse, reopen, verdict, ends, join, row, next, after, events, skipped, total, accepts, refuses}
 use Rattle.line.specs.Table.State.{W, WD, F, FD, C0, C1, E, ED}
 use Rattle.line.specs.Table.Event.{nothing, message, refusal}
 use Rattle.line.specs.Pieces.{Piece, bytesIn, joined, closes, pieceOf, closed, heldAfter, pieces, eventIn, eventsIn, raised, Framed, AllFramed, outsideIn, acceptedIn, refusedIn, pendingIn, sumOf, Cut}
 use Rattle.line.specs.Pieces.Piece.{outside, accepted, refused}
 use Rattle.line.proofs.Classes.{dle-is, etx-is, sum-is, doubled, stuffed-snoc}
-use Rattle.line.proofs.Account.{cond-both, Balanced, balanced, total}
+use Rattle.line.proofs.Account.{cond-both, balanced}
 use Rattle.line.proofs.Mirror.{PlaceOk, W-ok, sound}
 
 -- the bytes of the open frame
@@ -67,8 +67,7 @@ refuse-leaves s b v id = all-closed s b (0 + (pending s + 1) + 0) (omega arith)
 ends-leaves : (s : State) (b v id : ℕ) (d : List ℕ) → Leaves s b (ends v id d (pending s + 1))
 ends-leaves s b v id d = by (eqb v 0)
   where
-    by : (t : Bool)
-        → Leaves s b (record { to = W; event = cond t (message id d (pending s + 1)) (refusal v id (pending s + 1)); outside = 0 })
+    by : (t : Bool) → Leaves s b (record { to = W; event = verdict t v id d (pending s + 1); outside = 0 })
     by true = all-closed s b (pending s + 1 + 0 + 0) (omega arith)
     by false = all-closed s b (0 + (pending s + 1) + 0) (omega arith)
 
@@ -141,7 +140,7 @@ Neat t = byEvent (t .event) (Unit {0}) (λ id d n. t .outside ≡ 0) (λ v id n.
 ends-neat : (v id : ℕ) (d : List ℕ) (n : ℕ) → Neat (ends v id d n)
 ends-neat v id d n = by (eqb v 0)
   where
-    by : (t : Bool) → Neat (record { to = W; event = cond t (message id d n) (refusal v id n); outside = 0 })
+    by : (t : Bool) → Neat (record { to = W; event = verdict t v id d n; outside = 0 })
     by true = refl
     by false = refl
 
@@ -184,8 +183,7 @@ ends-framed : (m : Mode) (s : State) (b v id : ℕ) (d : List ℕ) → (v ≡ 0 
 ends-framed m s b v id d f = by (eqb v 0) refl
   where
     by : (t : Bool) → eqb v 0 ≡ t
-        → AllFramed m
-        (pieceOf (record { to = W; event = cond t (message id d (pending s + 1)) (refusal v id (pending s + 1)); outside = 0 }) (held s b))
+        → AllFramed m (pieceOf (record { to = W; event = verdict t v id d (pending s + 1); outside = 0 }) (held s b))
     by true q = (take-all (pending s + 1 + 0 + 0) (held s b) (omega (arith, length-held s b)) ∙ f (eqb-true v 0 q), tt)
     by false q = (tt, tt)
 
@@ -199,9 +197,9 @@ both-true false b h = let z : _≡_ {A = ℕ} 0 1 = cc in absurd (omega arith)
 
 -- where questions 9 to 12 are yes, the sum is the message's
 sum-agrees : (id : ℕ) (d : List ℕ) (c1 c2 : ℕ) → judge summed id d c1 c2 ≡ 0 → (c1 ≡ c1Of id d) × (c2 ≡ c2Of id d)
-sum-agrees id d c1 c2 h = by (eqb c1 (c1Of id d) && eqb c2 (c2Of id d)) refl h
+sum-agrees id d c1 c2 h = by (agrees id d c1 c2) refl h
   where
-    by : (t : Bool) → eqb c1 (c1Of id d) && eqb c2 (c2Of id d) ≡ t → cond t (content id d) 9 ≡ 0
+    by : (t : Bool) → agrees id d c1 c2 ≡ t → cond t (content id d) 9 ≡ 0
         → (c1 ≡ c1Of id d) × (c2 ≡ c2Of id d)
     by true q h =
         let w = both-true (eqb c1 (c1Of id d)) (eqb c2 (c2Of id d)) q in

@@ -18,8 +18,8 @@ use Rattle.line.proofs.Reading.{front, front-length, read-events, lengt
 use Rattle.line.proofs.Resync.{after-append}
 use Rattle.line.proofs.Mirror.{W-ok}
 use Rattle.line.proofs.Each.{So-far, so-far}
-use Rattle.line.proofs.Heard.{Said, right-said, said-before, said-last, stored, shorter, sums, stands, lengths, at-after, at-front, frames-leave}
-use Rattle.line.proofs.Latest.{latest-to, latest-from, absent-to, absent-from}
+use Rattle.line.proofs.Heard.{Said, right-said, said-before, said-last, shorter, sums, stands, lengths, at-after, at-front, frames-leave}
+use Rattle.line.proofs.Latest.{stored, latest-to, latest-from, absent-to, absent-from}
 
 -- the events at the bytes of the frame of x, which is the bytes from number first of all
 pub record Read (m : Mode) (x : Message) (first : ℕ) (all : List ℕ) : Type 0 where

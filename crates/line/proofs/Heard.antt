@@ -10,16 +10,16 @@ use lib.Dec.{ltb}
 use lib.ListN.{length, take, getD, length-append, List·getD-append}
 use lib.Seq.{getD-append-add}
 use Rattle.line.specs.Frame.{Mode, classOf, frame}
-use Rattle.line.specs.Table.{State, Event, next, after, events, accepts}
+use Rattle.line.specs.Table.{State, Event, next, after, events, total, accepts}
 use Rattle.line.specs.Table.State.{W}
 use Rattle.line.specs.Table.Event.{nothing, message, refusal}
 use Rattle.line.specs.Record.{Kept, limit, update}
 use Rattle.line.specs.Calls.{History, taken, offered, told, last, due, ifNothing, Right, Every, added, frameLength, Message, line, frames}
 use Rattle.line.specs.Calls.History.{start, call}
-use Rattle.line.proofs.Account.{total}
 use Rattle.line.proofs.Reading.{usable, events-append, length-events}
 use Rattle.line.proofs.Resync.{after-append, resync}
 use Rattle.line.proofs.Mirror.{PlaceOk, Fine, sound, stood, stood-append, total-append}
+use Rattle.line.proofs.Latest.{stored}
 use Rattle.line.proofs.Walking.{heard, told-append}
 
 pub data Heard : List Event → Event → Type 0 where
@@ -124,11 +124,6 @@ said-before full i h = absurd (omega arith)
 pub said-last : {es : List Event} {a : Event} → Said es a → (i : ℕ) → suc i ≡ length es → getD es i nothing ≡ a
 said-last (table s) i h = heard-last s i h
 said-last full i h = absurd (omega arith)
-
--- the latest message of a kind among the answers
-abbrev pub stored : Kept → History → Option (List ℕ)
-stored k start = none
-stored k (call h c n a) = update k a (stored k h)
 
 pub shorter : (h : History) (t : List ℕ) → length (taken h ++ t) ≤ limit → length (taken h) ≤ limit
 shorter h t l = omega (arith, length-append (taken h) t)

@@ -1,3 +1,4 @@
+pub mod Latest
 pub mod Classes
 pub mod Account
 pub mod Reading
@@ -7,10 +8,9 @@ pub mod Walking
 pub mod Outcome
 pub mod Each
 pub mod Heard
-pub mod Latest
 pub mod Demand3
-pub mod Cases
 pub mod Runs
 pub mod SliceSteps
 pub mod Cutting
 pub mod Listed
+pub mod Cases

@@ -1,5 +1,5 @@
 -- What the table keeps of question 2, and the record that mirrors the table after some bytes.
-use mathlib.Core.Bool.{Bool, true, false, cond, _&&_}
+use mathlib.Core.Bool.{Bool, true, false, cond}
 use mathlib.Core.List.{List, [], _∷_, _++_, append-nil}
 use mathlib.Core.Option.{Option, none, some}
 use mathlib.Core.Path.{_≡_, refl, sym, ap, _∙_, subst, subst⁻¹}
@@ -10,20 +10,19 @@ use lib.Dec.{eqb, ltb, lit<}
 use lib.ListN.{length, length-append}
 use lib.Seq.{append-snoc}
 use Rattle.octets.specs.Stuffing.{stuffed}
-use Rattle.checksum.specs.Checksum.{c1Of, c2Of}
 use Rattle.kinds.specs.Kinds.{content}
 use Rattle.kinds.proofs.ContentLaws.{content-number}
-use Rattle.line.specs.Frame.{Mode, Class, modeOf, classOf, frame, judge, Acceptable}
+use Rattle.line.specs.Frame.{Mode, Class, modeOf, classOf, frame, agrees, judge, Acceptable}
 use Rattle.line.specs.Frame.Mode.{plain, summed}
 use Rattle.line.specs.Frame.Class.{dle, etx, sum, other}
-use Rattle.line.specs.Table.{State, Event, Step, capacity, pending, go, refuse, ends, join, row, next, after, events, skipped, accepts, refuses}
+use Rattle.line.specs.Table.{State, Event, Step, capacity, pending, go, refuse, verdict, ends, join, row, next, after, events, skipped, total, accepts, refuses}
 use Rattle.line.specs.Table.State.{W, WD, F, FD, C0, C1, E, ED}
 use Rattle.line.specs.Table.Event.{nothing, message, refusal}
 use Rattle.line.specs.Record.{Rec, Kept, idOf, Place, byPlace, FromF, Fit, Possible, update, stateOf, stepped}
 use Rattle.line.specs.Record.Kept.{k43, k46, k4A, k4B, kEB}
 use Rattle.line.specs.Record.Place.{at}
-use Rattle.line.proofs.Classes.{class-other}
-use Rattle.line.proofs.Account.{total, balanced}
+use Rattle.line.proofs.Latest.{update-same, update-other}
+use Rattle.line.proofs.Account.{balanced}
 use Rattle.line.proofs.Reading.{events-append}
 use Rattle.line.proofs.Resync.{after-append}
 
@@ -71,7 +70,7 @@ ends-sound : (m : Mode) (v id : ℕ) (d : List ℕ) (n : ℕ) → (v ≡ 0 → A
     → n ≡ length (frame m id d) → Sound m (ends v id d n)
 ends-sound m v id d n g b l = (W-ok, by (eqb v 0) refl)
   where
-    by : (t : Bool) → eqb v 0 ≡ t → Fine m (cond t (message id d n) (refusal v id n))
+    by : (t : Bool) → eqb v 0 ≡ t → Fine m (verdict t v id d n)
     by true e = (g (eqb-true v 0 e), l)
     by false e = b (eqb-false v 0 e)
 
@@ -82,7 +81,7 @@ plain-ends : (id : ℕ) (d : List ℕ) → Sound plain (ends (content id d) id d
 plain-ends id d = content-ends plain id d _ (simp length-append (omega arith))
 
 summed-ends : (id : ℕ) (d : List ℕ) (c1 c2 : ℕ) → Sound summed (ends (judge summed id d c1 c2) id d (pending (ED id d c1 c2) + 1))
-summed-ends id d c1 c2 = by (eqb c1 (c1Of id d) && eqb c2 (c2Of id d))
+summed-ends id d c1 c2 = by (agrees id d c1 c2)
   where
     by : (t : Bool) → Sound summed (ends (cond t (content id d) 9) id d (pending (ED id d c1 c2) + 1))
     by true = content-ends summed id d _ (simp length-append (omega arith))
@@ -123,41 +122,6 @@ sound m (ED id d c1 c2) b other e h = (open-ok b e, lit< tt)
 pub place-ok : (m : Mode) (s : State) (bs : List ℕ) → PlaceOk m s → PlaceOk m (after m s bs)
 place-ok m s [] h = h
 place-ok m s (b ∷ bs) h = place-ok m (next m s b .to) bs (sound m s b (classOf b) refl h .0)
-
--- a step keeps the record possible
-kept : (m : Mode) (k : Kept) (e : Event) (o : Option (List ℕ)) → Fine m e → Fit (idOf k) o → Fit (idOf k) (update k e o)
-kept m k nothing o f g = g
-kept m k (message id d n) o f g = by (eqb id (idOf k)) refl
-  where
-    by : (t : Bool) → eqb id (idOf k) ≡ t → Fit (idOf k) (cond t (some d) o)
-    by true e = subst (λ i. Acceptable i d) (eqb-true id (idOf k) e) (f .0)
-    by false e = g
-kept m k (refusal v id n) o f g = g
-
-pub keeps-possible : (r : Rec) (b : ℕ) → Possible r → Possible (stepped r b)
-keeps-possible r b p =
-    record {
-      place = tt;
-      mode = w .0 .mode;
-      identifier = w .0 .identifier;
-      size = w .0 .size;
-      pending = refl;
-      fed = omega (arith, p .fed, p .pending, balanced m s b (classOf b) refl);
-      latest43 = kept m k43 (next m s b .event) (r .latest k43) (w .1) (p .latest43);
-      latest46 = kept m k46 (next m s b .event) (r .latest k46) (w .1) (p .latest46);
-      latest4A = kept m k4A (next m s b .event) (r .latest k4A) (w .1) (p .latest4A);
-      latest4B = kept m k4B (next m s b .event) (r .latest k4B) (w .1) (p .latest4B);
-      latestEB = kept m kEB (next m s b .event) (r .latest kEB) (w .1) (p .latestEB);
-    }
-  where
-    m : Mode
-    m = modeOf (r .mode)
-
-    s : State
-    s = stateOf (r .place)
-
-    w : Sound m (next m s b)
-    w = sound m s b (classOf b) refl (holds (p .mode) (p .identifier) (p .size))
 
 -- the latest message of a kind among events
 abbrev pub stood : Kept → Option (List ℕ) → List Event → Option (List ℕ)
@@ -222,6 +186,43 @@ stepped-mirror m bs b =
 
     o : skipped (modeOf m) W bs + next (modeOf m) (after (modeOf m) W bs) b .outside ≡ skipped (modeOf m) W (bs ++ (b ∷ []))
     o = omega (arith, skipped-append (modeOf m) W bs (b ∷ []))
+
+-- a step keeps the record possible
+kept : (m : Mode) (k : Kept) (e : Event) (o : Option (List ℕ)) → Fine m e → Fit (idOf k) o → Fit (idOf k) (update k e o)
+kept m k nothing o f g = g
+kept m k (message id d n) o f g = by (eqb id (idOf k)) refl
+  where
+    by : (t : Bool) → eqb id (idOf k) ≡ t → Fit (idOf k) (update k (message id d n) o)
+    by true e =
+        let q = eqb-true id (idOf k) e in
+        subst⁻¹ (Fit (idOf k)) (update-same k id d n o q) (subst (λ i. Acceptable i d) q (f .0))
+    by false e = subst⁻¹ (Fit (idOf k)) (update-other k id d n o (eqb-false id (idOf k) e)) g
+kept m k (refusal v id n) o f g = g
+
+pub keeps-possible : (r : Rec) (b : ℕ) → Possible r → Possible (stepped r b)
+keeps-possible r b p =
+    record {
+      place = tt;
+      mode = w .0 .mode;
+      identifier = w .0 .identifier;
+      size = w .0 .size;
+      pending = refl;
+      fed = omega (arith, p .fed, p .pending, balanced m s b (classOf b) refl);
+      latest43 = kept m k43 (next m s b .event) (r .latest k43) (w .1) (p .latest43);
+      latest46 = kept m k46 (next m s b .event) (r .latest k46) (w .1) (p .latest46);
+      latest4A = kept m k4A (next m s b .event) (r .latest k4A) (w .1) (p .latest4A);
+      latest4B = kept m k4B (next m s b .event) (r .latest k4B) (w .1) (p .latest4B);
+      latestEB = kept m kEB (next m s b .event) (r .latest kEB) (w .1) (p .latestEB);
+    }
+  where
+    m : Mode
+    m = modeOf (r .mode)
+
+    s : State
+    s = stateOf (r .place)
+
+    w : Sound m (next m s b)
+    w = sound m s b (classOf b) refl (holds (p .mode) (p .identifier) (p .size))
 
 -- question 2 is always yes of it
 from-possible : (m : ℕ) (before bs : List ℕ) → Possible (mirror m before) → Possible (mirror m (before ++ bs))

@@ -16,7 +16,7 @@ use Rattle.kinds.proofs.ContentLaws.{content-usable, content-length}
 use Rattle.line.specs.Frame.{ETX, Mode, Class, classOf, sumField, frame, judge, Acceptable}
 use Rattle.line.specs.Frame.Mode.{plain, summed}
 use Rattle.line.specs.Frame.Class.{dle, etx, sum, other}
-use Rattle.line.specs.Table.{State, Event, Step, capacity, pending, go, ends, join, row, next, after, events}
+use Rattle.line.specs.Table.{State, Event, Step, capacity, pending, go, verdict, ends, join, row, next, after, events}
 use Rattle.line.specs.Table.State.{W, WD, F, FD, C0, C1, E, ED}
 use Rattle.line.specs.Table.Event.{nothing, message}
 use Rattle.line.proofs.Classes.{class-dle, class-etx, class-other, doubled, stuffed-by}
@@ -94,9 +94,8 @@ front-length m id d = simp length-append (omega arith)
 pub whole : (m : Mode) (id : ℕ) (d ys : List ℕ) → frame m id d ++ ys ≡ front m id d ++ (ETX ∷ ys)
 whole m id d ys = simp append-assoc
 
--- a frame of n data bytes, k of them 10h
 good-end : (v id : ℕ) (d : List ℕ) (n k : ℕ) → v ≡ 0 → n ≡ k → ends v id d n ≡ record { to = W; event = message id d k; outside = 0 }
-good-end v id d n k e q = rw (eq-eqb v 0 e, q)
+good-end v id d n k e q = (λ i. record { to = W; event = verdict (eq-eqb v 0 e i) v id d (q i); outside = 0 })
 
 summed-good : (id : ℕ) (d : List ℕ) → Acceptable id d → judge summed id d (c1Of id d) (c2Of id d) ≡ 0
 summed-good id d a = rw (eq-eqb (c1Of id d) (c1Of id d) refl, eq-eqb (c2Of id d) (c2Of id d) refl) a

@@ -1,10 +1,10 @@
 -- Document 01, "Proved cases": bytes, and what the table makes of them. The cases beside the paper's ten follow them.
 use mathlib.Core.List.{List, [], _∷_, _++_}
-use Prim.Native.Nat.{ℕ, suc, _+_}
+use Prim.Native.Nat.{ℕ, suc}
 use lib.ListN.{replicate}
 use Rattle.line.specs.Frame.{Mode}
 use Rattle.line.specs.Frame.Mode.{plain, summed}
-use Rattle.line.specs.Table.{State, Event, byEvent, pending, after, events, skipped, accepts, refuses}
+use Rattle.line.specs.Table.{State, Event, byEvent, pending, after, events, skipped, total, accepts, refuses}
 use Rattle.line.specs.Table.State.{W}
 use Rattle.line.specs.Table.Event.{message, refusal}
 
@@ -25,16 +25,12 @@ abbrev pub raisedFrom : ℕ → List Event → List At
 raisedFrom n [] = []
 raisedFrom n (e ∷ es) = byEvent e [] (λ id d k. at n e ∷ []) (λ v id k. at n e ∷ []) ++ raisedFrom (suc n) es
 
-abbrev pub sum : (Event → ℕ) → List Event → ℕ
-sum f [] = 0
-sum f (e ∷ es) = f e + sum f es
-
 abbrev pub seen : Mode → List ℕ → Seen
 seen m bs =
     let es = events m W bs in
     record {
       events = raisedFrom 0 es;
-      counts = sum accepts es ∷ sum refuses es ∷ skipped m W bs ∷ pending (after m W bs) ∷ [];
+      counts = total accepts es ∷ total refuses es ∷ skipped m W bs ∷ pending (after m W bs) ∷ [];
     }
 
 pub record Case : Type 0 where

@@ -1,5 +1,5 @@
 -- Document 01, "The frame", and questions 9 to 12.
-use mathlib.Core.Bool.{cond, _&&_}
+use mathlib.Core.Bool.{Bool, cond, _&&_}
 use mathlib.Core.List.{List, [], _∷_, _++_}
 use mathlib.Core.Path.{_≡_}
 use Prim.Native.Nat.{ℕ, zero, suc}
@@ -38,10 +38,14 @@ sumField summed id d = DLE ∷ SUM ∷ c1Of id d ∷ c2Of id d ∷ []
 abbrev pub frame : Mode → ℕ → List ℕ → List ℕ
 frame m id d = DLE ∷ id ∷ (stuffed d ++ (sumField m id d ++ (DLE ∷ ETX ∷ [])))
 
+-- question 9: does the checksum agree?
+abbrev pub agrees : ℕ → List ℕ → ℕ → ℕ → Bool
+agrees id d c1 c2 = eqb c1 (c1Of id d) && eqb c2 (c2Of id d)
+
 -- question 9, where there is a checksum, then 10 to 12: 0 where all are yes, else the number of the first no
 abbrev pub judge : Mode → ℕ → List ℕ → ℕ → ℕ → ℕ
 judge plain id d c1 c2 = content id d
-judge summed id d c1 c2 = cond (eqb c1 (c1Of id d) && eqb c2 (c2Of id d)) (content id d) 9
+judge summed id d c1 c2 = cond (agrees id d c1 c2) (content id d) 9
 
 -- a message is acceptable if questions 10 to 12 are yes
 abbrev pub Acceptable : ℕ → List ℕ → Type 0

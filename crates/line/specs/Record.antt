@@ -1,6 +1,6 @@
 -- Document 01, "The step table" (the record) and "Questions, in order" (1 to 3): what a fresh reader, a step and a slice call
 -- return and leave.
-use mathlib.Core.Bool.{cond}
+use mathlib.Core.Bool.{Bool, true, false, cond}
 use mathlib.Core.List.{List, [], _∷_}
 use mathlib.Core.Option.{Option, none, some}
 use mathlib.Core.Path.{_≡_}
@@ -100,8 +100,12 @@ pub record Asked (r : Rec) (offers : Type 0) (refusedBy : ℕ → Type 0) (answe
   pub rest : r .mode ≤ 1 → Possible r → (offers → r .fed < limit) → answered
 
 -- giving a message of a kept kind replaces the latest one
+abbrev pub replaced : Bool → List ℕ → Option (List ℕ) → Option (List ℕ)
+replaced true d old = some d
+replaced false d old = old
+
 abbrev pub update : Kept → Event → Option (List ℕ) → Option (List ℕ)
-update k e old = byEvent e old (λ id d n. cond (eqb id (idOf k)) (some d) old) (λ v id n. old)
+update k e old = byEvent e old (λ id d n. replaced (eqb id (idOf k)) d old) (λ v id n. old)
 
 -- the event of b, and the record once b is taken
 abbrev pub eventOf : Rec → ℕ → Event

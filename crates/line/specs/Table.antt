@@ -1,5 +1,5 @@
 -- Document 01, "The step table" (here: transition table), and what it leaves of a list of bytes.
-use mathlib.Core.Bool.{cond}
+use mathlib.Core.Bool.{Bool, true, false, cond}
 use mathlib.Core.List.{List, [], _∷_, _++_}
 use Prim.Native.Nat.{ℕ, _+_}
 use lib.Dec.{eqb, ltb}
@@ -53,8 +53,12 @@ abbrev pub reopen : ℕ → ℕ → ℕ → ℕ → Step
 reopen why id n b = record { to = F b []; event = refusal why id n; outside = 0 }
 
 -- a frame of n bytes ends, and questions 9 to 12 gave v
+abbrev pub verdict : Bool → ℕ → ℕ → List ℕ → ℕ → Event
+verdict true v id d n = message id d n
+verdict false v id d n = refusal v id n
+
 abbrev pub ends : ℕ → ℕ → List ℕ → ℕ → Step
-ends v id d n = record { to = W; event = cond (eqb v 0) (message id d n) (refusal v id n); outside = 0 }
+ends v id d n = record { to = W; event = verdict (eqb v 0) v id d n; outside = 0 }
 
 -- the data bytes that a frame may have
 abbrev pub capacity : ℕ
@@ -115,6 +119,11 @@ abbrev pub byEvent {ℓ} : {A : Type ℓ} → Event → A → (ℕ → List ℕ 
 byEvent nothing x f g = x
 byEvent (message id d n) x f g = f id d n
 byEvent (refusal v id n) x f g = g v id n
+
+-- f of every event, added up
+abbrev pub total : (Event → ℕ) → List Event → ℕ
+total f [] = 0
+total f (e ∷ es) = f e + total f es
 
 -- the bytes that an event closes as accepted, and as refused
 abbrev pub accepts : Event → ℕ
