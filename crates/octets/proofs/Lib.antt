@@ -1,1 +1,5 @@
+pub mod Vectors
+pub mod NumberLaws
+pub mod SignedLaws
 pub mod StuffingLaws
+pub mod PlacingLaws
