@@ -1,6 +1,6 @@
 -- Laws of questions 10 to 12: what callers use in place of the table. Each is one test, computed over all rows.
 use mathlib.Core.Path.{_≡_, refl, _∙_}
-use mathlib.Core.Bool.{Bool, true, false, cond, not, _&&_, _||_}
+use mathlib.Core.Bool.{Bool, true, false, cond, not, _&&_, _||_, and-eq-true-iff}
 use mathlib.Core.List.{List, [], _∷_}
 use mathlib.Core.Option.{Option, none, some}
 use Prim.Native.Nat.{ℕ, _+_, _*_, _-_, _/_, _%_, _≤_, _<_, max}
@@ -11,15 +11,6 @@ use lib.Dec.{eqb, leb, ltb}
 use lib.ListN.{length}
 use Rattle.kinds.specs.declared.Kind.{Kind}
 use Rattle.kinds.specs.Kinds.{Row, table, rowIn, allows, lengthOk, judged, content}
-
--- both tests, and one of them
-pub and-left : (a b : Bool) → a && b ≡ true → a ≡ true
-and-left true b e = refl
-and-left false b e = e
-
-pub and-right : (a b : Bool) → a && b ≡ true → b ≡ true
-and-right true b e = e
-and-right false b e = let z : _≡_ {A = ℕ} 0 1 = cc in absurd (omega arith)
 
 -- the test holds of each row
 abbrev every : (Row → Bool) → List Row → Bool
@@ -34,11 +25,13 @@ Passes f id (some r) = (f r ≡ true) × (r .kind .id ≡ id)
 passes : (f : Row → Bool) (id : ℕ) (rs : List Row) → every f rs ≡ true → Passes f id (rowIn rs id)
 unfolding rowIn
 passes f id [] e = tt
-passes f id (r ∷ rs) e = go (eqb (r .kind .id) id) refl (passes f id rs (and-right (f r) (every f rs) e))
+passes f id (r ∷ rs) e =
+    let b = and-eq-true-iff (f r) (every f rs) .0 e in
+    go (b .0) (eqb (r .kind .id) id) refl (passes f id rs (b .1))
   where
-    go : (t : Bool) → eqb (r .kind .id) id ≡ t → Passes f id (rowIn rs id) → Passes f id (cond t (some r) (rowIn rs id))
-    go true q h = (and-left (f r) (every f rs) e, eqb-true (r .kind .id) id q)
-    go false q h = h
+    go : f r ≡ true → (t : Bool) → eqb (r .kind .id) id ≡ t → Passes f id (rowIn rs id) → Passes f id (cond t (some r) (rowIn rs id))
+    go p true q h = (p, eqb-true (r .kind .id) id q)
+    go p false q h = h
 
 -- the answer of a listed identifier, by its length and its ranges
 abbrev answer : Bool → Bool → ℕ
@@ -56,7 +49,7 @@ unfolding content lengthOk
 accepted f e id d h = go (rowIn table id) (passes f id table e) h
   where
     by : (r : Row) (t : Bool) → lengthOk (r .kind) d ≡ t → Passes f id (some r) → answer t (r .ranges d) ≡ 0 → Accepted f id d
-    by r true q p z = record { row = r; passed = p .0; same = p .1; long = and-left (allows (r .kind) (length d)) _ q }
+    by r true q p z = record { row = r; passed = p .0; same = p .1; long = and-eq-true-iff (allows (r .kind) (length d)) _ .0 q .0 }
     by r false q p z = absurd (omega arith)
 
     go : (o : Option Row) → Passes f id o → judged o d ≡ 0 → Accepted f id d
@@ -87,12 +80,10 @@ content-usable id d h =
     let a = accepted usable refl id d h in
     let i : ℕ = a .row .kind .id in
     let n : ℕ → Bool = λ x. not (eqb i x) in
-    let q = and-left (n 0x10 && n 0x03) (n 0xFF) (a .passed) in
-    let other : (x : ℕ) → n x ≡ true → id ≡ x → ⊥ = λ x p e. eqb-false i x (not-true (eqb i x) p) (a .same ∙ e) in (
-      other 0x10 (and-left (n 0x10) (n 0x03) q),
-      other 0x03 (and-right (n 0x10) (n 0x03) q),
-      other 0xFF (and-right (n 0x10 && n 0x03) (n 0xFF) (a .passed)),
-    )
+    let q = and-eq-true-iff (n 0x10 && n 0x03) (n 0xFF) .0 (a .passed) in
+    let p = and-eq-true-iff (n 0x10) (n 0x03) .0 (q .0) in
+    let other : (x : ℕ) → n x ≡ true → id ≡ x → ⊥ = λ x t e. eqb-false i x (not-true (eqb i x) t) (a .same ∙ e) in
+    (other 0x10 (p .0), other 0x03 (p .1), other 0xFF (q .1))
 
 -- each row's identifier is a byte
 pub content-byte : (id : ℕ) (d : List ℕ) → content id d ≡ 0 → id < 256
@@ -114,22 +105,30 @@ one-of n a b e = go (eqb n a) refl e
 
 entries-of : (n h w m : ℕ) → leb h n && eqb ((n - h) % w) 0 && leb ((n - h) / w) m ≡ true → n ≤ h + m * w
 entries-of n h w m e =
-    let p = leb h n in
-    let q = eqb ((n - h) % w) 0 in
-    let r = leb ((n - h) / w) m in
-    let pq = and-left (p && q) r e in
-    let l = leb-true h n (and-left p q pq) in
-    let z = eqb-true ((n - h) % w) 0 (and-right p q pq) in
-    let k : (n - h) / w * w ≤ m * w = mul-le-mul-right w (leb-true ((n - h) / w) m (and-right (p && q) r e)) in
-    omega (arith, l, z, k, div-add-mod' (n - h) w)
+    let b = and-eq-true-iff (leb h n && eqb ((n - h) % w) 0) (leb ((n - h) / w) m) .0 e in
+    let a = and-eq-true-iff (leb h n) (eqb ((n - h) % w) 0) .0 (b .0) in
+    let l = leb-true h n (a .0) in
+    let z = eqb-true ((n - h) % w) 0 (a .1) in
+    let k : (n - h) / w * w ≤ m * w = mul-le-mul-right w (leb-true ((n - h) / w) m (b .1)) in
+    omega (arith, div-add-mod' (n - h) w)
 
 allows-longest : (k : Kind) (n : ℕ) → allows k n ≡ true → n ≤ longest k
 unfolding allows
 allows-longest k n e = go (eqb (k .width) 0) e
   where
-    go : (t : Bool) → cond t (eqb n (k .short) || eqb n (k .long)) (leb (k .header) n && eqb ((n - k .header) % k .width) 0 && leb ((n - k .header) / k .width) (k .most)) ≡ true → n ≤ longest k
-    go true h = omega (arith, one-of n (k .short) (k .long) h, le-max-left (max (k .short) (k .long)) (k .header + k .most * k .width))
-    go false h = omega (arith, entries-of n (k .header) (k .width) (k .most) h, le-max-right (max (k .short) (k .long)) (k .header + k .most * k .width))
+    fixed : ℕ
+    fixed = max (k .short) (k .long)
+
+    full : ℕ
+    full = k .header + k .most * k .width
+
+    go : (t : Bool)
+        → cond t (eqb n (k .short) || eqb n (k .long))
+        (leb (k .header) n && eqb ((n - k .header) % k .width) 0 && leb ((n - k .header) / k .width) (k .most))
+        ≡ true
+        → n ≤ max fixed full
+    go true h = omega (arith, one-of n (k .short) (k .long) h, le-max-left fixed full)
+    go false h = omega (arith, entries-of n (k .header) (k .width) (k .most) h, le-max-right fixed full)
 
 -- no kind is longer than the data that a frame holds
 pub content-length : (id : ℕ) (d : List ℕ) → content id d ≡ 0 → length d ≤ 1024

@@ -6,6 +6,8 @@ use Prim.Native.Nat.{ℕ, _-_, _/_, _%_}
 use lib.Dec.{eqb, leb}
 use lib.ListN.{length}
 use Rattle.kinds.specs.declared.Kind.{Kind}
+use Rattle.kinds.specs.declared.Listed.{Listed}
+use Rattle.kinds.specs.declared.Listed.the-variants.{As, Nothing}
 use Rattle.kinds.specs.Ranges.{byte, free, in1F, in20, in23, in43, in46, in47, in49, inEB, in52}
 
 -- a kind, and the ranges of its fields
@@ -25,15 +27,25 @@ entries i h w m f = record { kind = record { id = i; short = h; long = h; header
 
 unfoldable pub table : List Row
 table =
-    only 0x1B 0 free ∷ only 0x1E 0 free ∷ only 0x26 0 free ∷ only 0x54 0 free
-    ∷ oneOf 0x21 0 1 free ∷ oneOf 0x24 0 1 free ∷ oneOf 0x27 0 1 free ∷ oneOf 0x2A 0 1 free ∷ oneOf 0x1F 0 1 in1F ∷ only 0xF4 1 free
+    only 0x1B 0 free
+    ∷ only 0x1E 0 free
+    ∷ only 0x26 0 free
+    ∷ only 0x54 0 free
+    ∷ oneOf 0x21 0 1 free
+    ∷ oneOf 0x24 0 1 free
+    ∷ oneOf 0x27 0 1 free
+    ∷ oneOf 0x2A 0 1 free
+    ∷ oneOf 0x1F 0 1 in1F
+    ∷ only 0xF4 1 free
     ∷ only 0x20 2 in20
     ∷ oneOf 0x23 0 2 in23
     ∷ only 0x43 6 in43
     ∷ only 0x46 10 in46
     ∷ only 0x47 168 in47
     ∷ oneOf 0x49 93 130 in49
-    ∷ only 0x4A 33 free ∷ only 0x4B 42 free ∷ only 0xEB 26 inEB
+    ∷ only 0x4A 33 free
+    ∷ only 0x4B 42 free
+    ∷ only 0xEB 26 inEB
     ∷ entries 0x52 0 7 75 in52
     ∷ []
 
@@ -41,6 +53,11 @@ table =
 unfoldable pub rowIn : List Row → ℕ → Option Row
 rowIn [] id = none
 rowIn (r ∷ rs) id = cond (eqb (r .kind .id) id) (some r) (rowIn rs id)
+
+-- the row as the code answers it
+abbrev pub listed : Option Row → Listed
+listed none = Nothing
+listed (some r) = As (r .kind)
 
 -- question 11: the table's lengths, and 49h's rule that its first byte chooses between the two
 unfoldable pub allows : Kind → ℕ → Bool
@@ -55,6 +72,10 @@ unfoldable pub lengthOk : Kind → List ℕ → Bool
 lengthOk k d = allows k (length d) && cond (eqb (k .id) 0x49) (chosen49 (byte d 0) (length d)) true
 
 -- question 12: the ranges
+abbrev pub inRange : Option Row → List ℕ → Bool
+inRange none d = true
+inRange (some r) d = r .ranges d
+
 abbrev pub judged : Option Row → List ℕ → ℕ
 judged none d = 10
 judged (some r) d = cond (lengthOk (r .kind) d) (cond (r .ranges d) 0 12) 11

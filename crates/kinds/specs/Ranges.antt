@@ -12,12 +12,15 @@ use Rattle.octets.specs.Signed.{int8}
 abbrev pub between : ℕ → ℕ → ℕ → Bool
 between low high n = leb low n && leb n high
 
--- INT8S from -low to high
-abbrev pub within : ℕ → ℕ → ℕ → Bool
-within low high b = leZ (negℤ (pos low)) (int8 b) && leZ (int8 b) (pos high)
+-- from -low to high
+abbrev pub within : ℕ → ℕ → ℤ → Bool
+within low high z = leZ (negℤ (pos low)) z && leZ z (pos high)
 
 abbrev pub byte : List ℕ → ℕ → ℕ
 byte d i = getD d i 0
+
+abbrev pub int8At : List ℕ → ℕ → ℤ
+int8At d i = int8 (byte d i)
 
 -- the test holds of each number below n; of how many it holds
 unfoldable pub all : ℕ → (ℕ → Bool) → Bool
@@ -43,11 +46,11 @@ abbrev pub in20 : List ℕ → Bool
 in20 d = satellite (byte d 0) (byte d 1)
 
 -- INT8S hours −13 to 13, INT8S minutes −59 to 59
-abbrev pub zone : ℕ → ℕ → Bool
+abbrev pub zone : ℤ → ℤ → Bool
 zone h m = within 13 13 h && within 59 59 m
 
 abbrev pub in23 : List ℕ → Bool
-in23 d = eqb (length d) 0 || zone (byte d 0) (byte d 1)
+in23 d = eqb (length d) 0 || zone (int8At d 0) (int8At d 1)
 
 -- the byte 2; a result byte whose bits 7–6 are 0, 1 or 3 (antenna); four zeros
 abbrev pub antenna : ℕ → ℕ
@@ -60,7 +63,7 @@ in43 d = eqb (byte d 0) 2 && not (eqb (antenna (byte d 1)) 2) && all 4 (λ i. eq
 abbrev pub in46 : List ℕ → Bool
 in46 d =
     leb (numberAt d 0 4) 604799 && between 1 31 (byte d 4) && between 1 12 (byte d 5) && ltb 1999 (numberAt d 6 2)
-    && zone (byte d 8) (byte d 9)
+    && zone (int8At d 8) (int8At d 9)
 
 -- 56 triples system, number, use (1 or 2); each satellite of 20h once
 abbrev pub once : List ℕ → ℕ → ℕ → Bool
@@ -72,12 +75,12 @@ in47 d =
     && all 32 (λ k. once d 1 (k + 1)) && all 24 (λ k. once d 2 (k + 1))
 
 -- INT8S carrier −7 to 13
-abbrev pub carrier : ℕ → Bool
-carrier b = within 7 13 b
+abbrev pub carrier : ℤ → Bool
+carrier z = within 7 13 z
 
 -- first byte 1: number 1–32; first byte 2: number 0–24, carrier; no other first byte
 abbrev pub in49 : List ℕ → Bool
-in49 d = (eqb (byte d 0) 1 && between 1 32 (byte d 1)) || (eqb (byte d 0) 2 && leb (byte d 1) 24 && carrier (byte d 2))
+in49 d = (eqb (byte d 0) 1 && between 1 32 (byte d 1)) || (eqb (byte d 0) 2 && leb (byte d 1) 24 && carrier (int8At d 2))
 
 -- byte 16 from 0 to 3
 abbrev pub inEB : List ℕ → Bool
@@ -90,7 +93,7 @@ visible s n = satellite s n || (eqb s 4 && between 120 138 n)
 -- carrier for system 2, else FFh; elevation 0–90; azimuth 0–359; signal, any
 abbrev pub entry : List ℕ → Bool
 entry e =
-    visible (byte e 0) (byte e 1) && cond (eqb (byte e 0) 2) (carrier (byte e 2)) (eqb (byte e 2) 0xFF) && leb (byte e 3) 90
+    visible (byte e 0) (byte e 1) && cond (eqb (byte e 0) 2) (carrier (int8At e 2)) (eqb (byte e 2) 0xFF) && leb (byte e 3) 90
     && leb (numberAt e 4 2) 359
 
 abbrev pub in52 : List ℕ → Bool

@@ -20,6 +20,10 @@ pub class-etx : classOf ETX ≡ etx
 unfolding classOf
 class-etx = refl
 
+pub class-sum : classOf SUM ≡ sum
+unfolding classOf
+class-sum = refl
+
 pub class-other : (b : ℕ) → (b ≡ DLE → ⊥) → (b ≡ ETX → ⊥) → (b ≡ SUM → ⊥) → classOf b ≡ other
 unfolding classOf
 class-other b p q r =

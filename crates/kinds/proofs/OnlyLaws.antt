@@ -1,0 +1,88 @@
+-- Laws of a kind that has one length: its length, and acceptance by its ranges alone.
+use mathlib.Core.Bool.{Bool, true, false, cond, _&&_, _||_}
+use mathlib.Core.List.{List}
+use mathlib.Core.Option.{Option, some}
+use mathlib.Core.Path.{_≡_, refl, sym, ap, _∙_}
+use Prim.Native.Nat.{ℕ}
+use native.Mathlib.Omega.{arith}
+use borrow.Author.Tests.{eqb-true}
+use lib.Dec.{eqb}
+use lib.ListN.{length}
+use Rattle.kinds.specs.Ranges.{byte, free, in43, in46, inEB}
+use Rattle.kinds.specs.Kinds.{Row, only, table, rowIn, allows, chosen49, lengthOk, judged, content}
+
+module _ (id n : ℕ) (f : List ℕ → Bool) (row : rowIn table id ≡ some (only id n f)) (plain : eqb id 0x49 ≡ false) where
+  -- what the row answers, by whether the length is the row's
+  abbrev by-length : Bool → List ℕ → ℕ
+  by-length t d = cond ((t || t) && true) (cond (f d) 0 12) 11
+
+  one : (d : List ℕ) → content id d ≡ by-length (eqb (length d) n) d
+  unfolding content lengthOk allows
+  one d =
+      ap (λ o. judged o d) row
+      ∙ ap (λ t. cond ((eqb (length d) n || eqb (length d) n) && cond t (chosen49 (byte d 0) (length d)) true) (cond (f d) 0 12) 11) plain
+
+  pub tested : (d : List ℕ) → eqb (length d) n && f d ≡ eqb (content id d) 0
+  tested d = go (eqb (length d) n) (f d) refl ∙ ap (λ v. eqb v 0) (sym (one d))
+    where
+      go : (t y : Bool) → f d ≡ y → t && f d ≡ eqb (by-length t d) 0
+      go true true e = rw e
+      go true false e = rw e
+      go false y e = refl
+
+  pub long : (d : List ℕ) → content id d ≡ 0 → length d ≡ n
+  long d e = go (eqb (length d) n) refl (sym (one d) ∙ e)
+    where
+      go : (t : Bool) → eqb (length d) n ≡ t → by-length t d ≡ 0 → length d ≡ n
+      go true q z = eqb-true (length d) n q
+      go false q z = absurd (omega arith)
+
+row-43 : rowIn table 0x43 ≡ some (only 0x43 6 in43)
+unfolding table rowIn
+row-43 = refl
+
+row-46 : rowIn table 0x46 ≡ some (only 0x46 10 in46)
+unfolding table rowIn
+row-46 = refl
+
+row-4A : rowIn table 0x4A ≡ some (only 0x4A 33 free)
+unfolding table rowIn
+row-4A = refl
+
+row-4B : rowIn table 0x4B ≡ some (only 0x4B 42 free)
+unfolding table rowIn
+row-4B = refl
+
+row-EB : rowIn table 0xEB ≡ some (only 0xEB 26 inEB)
+unfolding table rowIn
+row-EB = refl
+
+pub test-43 : (d : List ℕ) → eqb (length d) 6 && in43 d ≡ eqb (content 0x43 d) 0
+test-43 d = tested 0x43 6 in43 row-43 refl d
+
+pub test-46 : (d : List ℕ) → eqb (length d) 10 && in46 d ≡ eqb (content 0x46 d) 0
+test-46 d = tested 0x46 10 in46 row-46 refl d
+
+pub test-EB : (d : List ℕ) → eqb (length d) 26 && inEB d ≡ eqb (content 0xEB d) 0
+test-EB d = tested 0xEB 26 inEB row-EB refl d
+
+pub test-4A : (d : List ℕ) → eqb (length d) 33 && true ≡ eqb (content 0x4A d) 0
+test-4A d = tested 0x4A 33 free row-4A refl d
+
+pub test-4B : (d : List ℕ) → eqb (length d) 42 && true ≡ eqb (content 0x4B d) 0
+test-4B d = tested 0x4B 42 free row-4B refl d
+
+pub length-43 : (d : List ℕ) → content 0x43 d ≡ 0 → length d ≡ 6
+length-43 = long 0x43 6 in43 row-43 refl
+
+pub length-46 : (d : List ℕ) → content 0x46 d ≡ 0 → length d ≡ 10
+length-46 = long 0x46 10 in46 row-46 refl
+
+pub length-4A : (d : List ℕ) → content 0x4A d ≡ 0 → length d ≡ 33
+length-4A = long 0x4A 33 free row-4A refl
+
+pub length-4B : (d : List ℕ) → content 0x4B d ≡ 0 → length d ≡ 42
+length-4B = long 0x4B 42 free row-4B refl
+
+pub length-EB : (d : List ℕ) → content 0xEB d ≡ 0 → length d ≡ 26
+length-EB = long 0xEB 26 inEB row-EB refl

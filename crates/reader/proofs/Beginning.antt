@@ -1,0 +1,159 @@
+-- From a possible record to the moving numbers, and from what a run says to what the slice call returns.
+use mathlib.Core.Bool.{Bool, true, false, cond}
+use mathlib.Core.List.{List, [], _∷_}
+use mathlib.Core.Option.{Option}
+use mathlib.Core.Path.{_≡_, refl, sym, ap, _∙_, subst, subst⁻¹}
+use Prim.Native.Nat.{ℕ, _+_, _≤_, _<_}
+use native.Mathlib.Omega.{arith}
+use borrow.Author.Tests.{ltb-true, ltb-false, lt-ltb, eqb-true, eqb-false}
+use lib.Dec.{eqb, ltb}
+use lib.ListN.{length, take}
+use Rattle.line.specs.Frame.{modeOf}
+use Rattle.line.specs.Table.{Event as Said}
+use Rattle.line.specs.Table.Event.{nothing, message, refusal}
+use Rattle.line.specs.Record.{Rec, Kept, Place, Possible, Result, limit, stateOf, eventOf, stepped, orStop, oneMore, walk}
+use Rattle.line.proofs.Mirror.{PlaceOk}
+use Rattle.reader.specs.View.{placeOf, dataOf, latestOf, view, partsOf, shown}
+use Rattle.reader.specs.Posts.{Reads}
+use Rattle.reader.specs.Moving.{Base, see, placeNow, startOf, baseOf, turned, Pends, Sound, Fits, Ran, Finishes, storedBy}
+use Rattle.reader.specs.declared.Head.{Head}
+use Rattle.reader.specs.declared.Latest.{Latest}
+use Rattle.reader.specs.declared.Reader.{Reader}
+use Rattle.reader.specs.declared.Moving.{Moving}
+use Rattle.reader.specs.declared.Moved.{Moved}
+use Rattle.reader.specs.declared.Closed.{Closed}
+use Rattle.reader.specs.declared.Act.the-variants.{Quiet}
+use Rattle.reader.proofs.Feeding.{tested, closes}
+use Rattle.reader.proofs.Finishing.{data-take, data-length}
+use Rattle.reader.proofs.Question.{Asks, Clauses, clauses-open, of-possible}
+
+-- in W and WD the data do not count
+place-low : (n id : ℕ) (d d′ : List ℕ) (c1 c2 : ℕ) → n < 2 → placeOf n id d c1 c2 ≡ placeOf n id d′ c1 c2
+unfolding placeOf
+place-low n id d d′ c1 c2 l =
+    tested (eqb n 0) (λ t. let q = eqb-true n 0 t in ap (λ i. placeOf i id d c1 c2) q ∙ ap (λ i. placeOf i id d′ c1 c2) (sym q))
+    (λ t.
+    let q : n ≡ 1 = (let z = eqb-false n 0 t in omega arith) in
+    ap (λ i. placeOf i id d c1 c2) q ∙ ap (λ i. placeOf i id d′ c1 c2) (sym q))
+
+module _ (r : Reader) (whole : length (r .bytes) ≡ 1024) (p : Possible (view r)) where
+  asked : 2 ≤ r .head .place → Asks (modeOf (r .head .mode)) (r .head .place) (r .head .id) (dataOf (r .head .len) (r .bytes)) (r .head .pending)
+  asked g =
+      clauses-open (modeOf (r .head .mode)) (r .head .place) (r .head .id) (dataOf (r .head .len) (r .bytes)) (r .head .c1) (r .head .c2) (r .head .pending) g
+      (of-possible r p)
+
+  short-len : 2 ≤ r .head .place → r .head .len ≤ 1024
+  short-len g = omega (arith, asked g .short, data-length (r .head .len) (r .bytes))
+
+  start-place : placeNow (startOf (r .head)) (r .bytes) ≡ view r .place
+  start-place =
+      tested (ltb (r .head .place) 2)
+      (λ t. place-low (r .head .place) (r .head .id) _ _ (r .head .c1) (r .head .c2) (ltb-true (r .head .place) 2 t))
+      (λ t.
+      let g = ltb-false (r .head .place) 2 t in
+      ap (λ c. placeOf (r .head .place) (r .head .id) (take (cond c 0 (r .head .len)) (r .bytes)) (r .head .c1) (r .head .c2)) t
+      ∙ ap (λ d. placeOf (r .head .place) (r .head .id) d (r .head .c1) (r .head .c2))
+      (sym (data-take (r .head .len) (r .bytes) (omega (arith, short-len g)))))
+
+  pub start-pends : Pends (startOf (r .head)) (r .bytes)
+  start-pends = p .pending ∙ ap (λ x. Rattle.line.specs.Table.pending (stateOf x)) (sym start-place)
+
+  pub start-sound : Sound (r .head .mode) (startOf (r .head)) (r .bytes)
+  start-sound =
+      subst⁻¹ (λ x. PlaceOk (modeOf (r .head .mode)) (stateOf x)) start-place
+      (record { mode = p .mode; identifier = p .identifier; size = p .size })
+
+  pub start-fits : (n : ℕ) → r .head .fed + n ≤ limit → Fits (startOf (r .head)) 0 n
+  start-fits n l =
+      record {
+        known = tested (ltb (r .head .place) 2) (λ t. omega (arith, ltb-true (r .head .place) 2 t)) (λ t. asked (ltb-false (r .head .place) 2 t) .known);
+        short =
+            tested (ltb (r .head .place) 2) (λ t. rw t (omega arith)) (λ t. rw t (short-len (ltb-false (r .head .place) 2 t)));
+        room = omega (arith, p .fed, l);
+      }
+
+  see-view : see (r .head .mode) (baseOf (r .head) (latestOf (r .latest))) (startOf (r .head)) (r .bytes) (r .head .fed) ≡ view r
+  see-view =
+      λ i.
+      record {
+        mode = r .head .mode;
+        place = start-place i;
+        fed = r .head .fed;
+        accepted = r .head .accepted;
+        refused = r .head .refused;
+        outside = r .head .outside;
+        pending = r .head .pending;
+        latest = latestOf (r .latest);
+      }
+
+  -- the whole slice, from what `run` says
+  pub ran-walk : (s : List ℕ) (n : ℕ) (t : Moved) (a : List ℕ) → Ran (r .head .mode) (startOf (r .head)) (r .bytes) a s n t → r .head .fed + n ≤ limit
+      → (n < length s → r .head .fed + n ≡ limit)
+      → walk (view r) s
+      ≡ record {
+        after = turned (r .head .mode) (baseOf (r .head) (latestOf (r .latest))) (t .act) (t .now) (t .last) a (r .head .fed + t .at) .after;
+        answer = turned (r .head .mode) (baseOf (r .head) (latestOf (r .latest))) (t .act) (t .now) (t .last) a (r .head .fed + t .at) .event;
+        taken = t .at;
+      }
+  ran-walk s n t a g l u =
+      ap (λ x. walk x s) (sym see-view)
+      ∙ g .says (baseOf (r .head) (latestOf (r .latest))) l
+      ∙ closes (r .head .mode) (baseOf (r .head) (latestOf (r .latest))) (t .act) (t .now) (t .last) a s (t .at)
+      (λ e h. let i = g .through e in let v = u (omega (arith, i, h)) in omega (arith, i, v))
+
+  -- what the slice call returns
+  pub reads-of : (s : List ℕ) (n : ℕ) (t : Moved) (a : List ℕ) (o : Closed) (x : Latest) → Ran (r .head .mode) (startOf (r .head)) (r .bytes) a s n t
+      → r .head .fed + n ≤ limit → (n < length s → r .head .fed + n ≡ limit)
+      → Finishes (latestOf (r .latest)) (turned (r .head .mode) (baseOf (r .head) (latestOf (r .latest))) (t .act) (t .now) (t .last) a (r .head .fed + t .at)) a o
+      → ((i : Kept) → latestOf x i ≡ storedBy (o .keep) (o .id) (take (o .len) a) (latestOf (r .latest)) i)
+      → Reads (walk (view r) s)
+      (record {
+        reader = record { head = o .head; latest = x; bytes = a };
+        answer = record { event = o .event; id = o .id; len = o .len; bytes = a; closed = o .closed };
+        taken = t .at;
+      })
+  reads-of s n t a o x g l u f k =
+      let w = ran-walk s n t a g l u in
+      record {
+        after =
+            (λ i.
+            record {
+              mode = o .head .mode;
+              place = placeOf (o .head .place) (o .head .id) (dataOf (o .head .len) a) (o .head .c1) (o .head .c2);
+              fed = o .head .fed;
+              accepted = o .head .accepted;
+              refused = o .head .refused;
+              outside = o .head .outside;
+              pending = o .head .pending;
+              latest = λ j. k j i;
+            })
+            ∙ f .after
+            ∙ ap (λ (y : Result). y .after) (sym w);
+        said = f .said ∙ ap (λ (y : Result). shown (y .answer)) (sym w);
+        taken = ap (λ (y : Result). y .taken) (sym w);
+      }
+
+-- a slice of one byte is a step
+pub record Single (v : Rec) (b : ℕ) : Type 0 where
+  pub after : walk v (b ∷ []) .after ≡ stepped v b
+  pub answer : walk v (b ∷ []) .answer ≡ eventOf v b
+
+pub single : (v : Rec) (b : ℕ) → v .fed < limit → Single v b
+single v b l = by (ltb (v .fed) limit) (lt-ltb (v .fed) limit l) (eventOf v b) refl
+  where
+    end : Bool → Said → Result
+    end t e =
+        cond t
+        (orStop e (oneMore (record { after = stepped v b; answer = nothing; taken = 0 })) (record { after = stepped v b; answer = e; taken = 1 }))
+        (record { after = v; answer = nothing; taken = 0 })
+
+    is : (t : Bool) (e : Said) → ltb (v .fed) limit ≡ t → eventOf v b ≡ e → walk v (b ∷ []) ≡ end t e
+    is t e p q = λ i. end (p i) (q i)
+
+    by : (t : Bool) → ltb (v .fed) limit ≡ true → (e : Said) → eventOf v b ≡ e → Single v b
+    by t p nothing q =
+        record { after = ap (λ (y : Result). y .after) (is true nothing p q); answer = ap (λ (y : Result). y .answer) (is true nothing p q) ∙ sym q }
+    by t p (message i d n) q =
+        record { after = ap (λ (y : Result). y .after) (is true (message i d n) p q); answer = ap (λ (y : Result). y .answer) (is true (message i d n) p q) ∙ sym q }
+    by t p (refusal w i n) q =
+        record { after = ap (λ (y : Result). y .after) (is true (refusal w i n) p q); answer = ap (λ (y : Result). y .answer) (is true (refusal w i n) p q) ∙ sym q }

@@ -1,0 +1,187 @@
+-- What an act comes to is what the table makes of it.
+use mathlib.Core.Bool.{Bool, true, false, cond}
+use mathlib.Core.List.{List, [], _∷_, _++_}
+use mathlib.Core.Option.{Option}
+use mathlib.Core.Path.{_≡_, refl, sym, ap, _∙_, subst}
+use Prim.Native.Nat.{ℕ, _+_, _-_, _≤_, _<_}
+use native.Mathlib.Nat.{add-zero}
+use native.Mathlib.Omega.{arith}
+use borrow.Author.Tests.{eqb-true}
+use lib.Dec.{eqb}
+use lib.ListN.{length, take, replicate, length-append, length-replicate}
+use lib.Seq.{take-append-le, length-take-le}
+use Rattle.kinds.specs.Kinds.{content}
+use Rattle.line.specs.Frame.{Mode, modeOf, agrees, judge, Acceptable}
+use Rattle.line.specs.Frame.Mode.{plain, summed}
+use Rattle.line.specs.Table.{verdict}
+use Rattle.line.specs.Table.State.{W, F}
+use Rattle.line.specs.Table.Event.{nothing, message, refusal}
+use Rattle.line.specs.Record.{Kept, update}
+use Rattle.line.specs.Record.Place.{at as on}
+use Rattle.reader.specs.View.{placeOf, dataOf, shown}
+use Rattle.reader.specs.Moving.{Base, Out, see, closedBy, ended, verdictOf, turned, baseOf, headWith, concludedBy, storedBy, seeHead, Finishes}
+use Rattle.reader.specs.declared.Head.{Head}
+use Rattle.reader.specs.declared.Moving.{Moving}
+use Rattle.reader.specs.declared.Closed.{Closed}
+use Rattle.reader.specs.declared.Act.{Act}
+use Rattle.reader.specs.declared.Act.the-variants.{Quiet, Refused, Reopened, Ended}
+use Rattle.reader.specs.declared.Event.the-variants.{Nothing, Message, Refusal}
+
+-- within the array, the data are its first bytes
+pub data-take : (n : ℕ) (a : List ℕ) → n ≤ length a → dataOf n a ≡ take n a
+unfolding dataOf
+data-take n a h = take-append-le n a (replicate n 0) h
+
+-- and they are always as many as said
+pub data-length : (n : ℕ) (a : List ℕ) → length (dataOf n a) ≡ n
+unfolding dataOf
+data-length n a =
+    length-take-le n (a ++ replicate n 0) (rw (length-append a (replicate n 0), length-replicate {A = ℕ} n 0) (omega arith))
+
+-- where questions 9 to 12 are yes, 10 to 12 are
+judge-accepts : (m : Mode) (id : ℕ) (d : List ℕ) (c1 c2 : ℕ) → judge m id d c1 c2 ≡ 0 → Acceptable id d
+judge-accepts plain id d c1 c2 h = h
+judge-accepts summed id d c1 c2 h = by (agrees id d c1 c2) h
+  where
+    by : (t : Bool) → cond t (content id d) 9 ≡ 0 → content id d ≡ 0
+    by true h = h
+    by false h = absurd (omega arith)
+
+not-kept : {P : Type 0} → false ≡ true → P
+not-kept e = let z : _≡_ {A = ℕ} 0 1 = cc in absurd (omega arith)
+
+module _ (h : Head) (m : Moving) (at : ℕ) (a : List ℕ) (l : Kept → Option (List ℕ)) (short : m .len ≤ 1024) (whole : length a ≡ 1024) where
+  pub finish-quiet : Finishes l (record { after = see (h .mode) (baseOf h l) m a (h .fed + at); event = nothing }) a
+      (record { head = headWith h m at (m .place) (m .id) (m .len) (m .pending); event = Nothing; id = 0; len = 0; closed = 0; keep = false })
+  unfolding dataOf
+  finish-quiet =
+      record {
+        after = λ i. seeHead-as i;
+        said = refl;
+        short = omega arith;
+        good = λ e. not-kept e;
+      }
+    where
+      d : dataOf (m .len) a ≡ take (m .len) a
+      d = data-take (m .len) a (omega arith)
+
+      seeHead-as : seeHead (headWith h m at (m .place) (m .id) (m .len) (m .pending)) a (storedBy false 0 (take 0 a) l)
+          ≡ see (h .mode) (baseOf h l) m a (h .fed + at)
+      seeHead-as =
+          λ i.
+          record {
+            mode = h .mode;
+            place = placeOf (m .place) (m .id) (d i) (m .c1) (m .c2);
+            fed = h .fed + at;
+            accepted = h .accepted;
+            refused = h .refused;
+            outside = m .outside;
+            pending = m .pending;
+            latest = l;
+          }
+
+  pub finish-refused : (v : ℕ)
+      → Finishes l (closedBy (h .mode) (baseOf h l) 0 (m .pending) (on W) (m .outside) 0 (h .fed + at) (refusal v (m .id) (m .pending))) a
+      (record {
+        head = record { mode = h .mode; place = 0; id = m .id; c1 = m .c1; c2 = m .c2; len = m .len; accepted = h .accepted; refused = h .refused + m .pending; outside = m .outside; pending = 0; fed = h .fed + at };
+        event = Refusal v;
+        id = m .id;
+        len = 0;
+        closed = m .pending;
+        keep = false;
+      })
+  unfolding dataOf placeOf
+  finish-refused v =
+      record {
+        after = λ i.
+            record {
+              mode = h .mode;
+              place = on W;
+              fed = h .fed + at;
+              accepted = sym (add-zero (h .accepted)) i;
+              refused = h .refused + m .pending;
+              outside = m .outside;
+              pending = 0;
+              latest = l;
+            };
+        said = refl;
+        short = omega arith;
+        good = λ e. not-kept e;
+      }
+
+  pub finish-reopened : (v b : ℕ)
+      → Finishes l (closedBy (h .mode) (baseOf h l) 0 (m .pending - 2) (on (F b [])) (m .outside) 2 (h .fed + at) (refusal v (m .id) (m .pending - 2))) a
+      (record {
+        head = record { mode = h .mode; place = 2; id = b; c1 = m .c1; c2 = m .c2; len = 0; accepted = h .accepted; refused = h .refused + (m .pending - 2); outside = m .outside; pending = 2; fed = h .fed + at };
+        event = Refusal v;
+        id = m .id;
+        len = 0;
+        closed = m .pending - 2;
+        keep = false;
+      })
+  unfolding dataOf placeOf
+  finish-reopened v b =
+      record {
+        after = λ i.
+            record {
+              mode = h .mode;
+              place = on (F b []);
+              fed = h .fed + at;
+              accepted = sym (add-zero (h .accepted)) i;
+              refused = h .refused + (m .pending - 2);
+              outside = m .outside;
+              pending = 2;
+              latest = l;
+            };
+        said = refl;
+        short = omega arith;
+        good = λ e. not-kept e;
+      }
+
+  pub finish-ended : (v : ℕ) → v ≡ verdictOf (h .mode) m a
+      → Finishes l (ended (eqb (verdictOf (h .mode) m a) 0) (verdictOf (h .mode) m a) (h .mode) (baseOf h l) m a (h .fed + at)) a
+      (concludedBy (eqb v 0) h m at v)
+  unfolding dataOf placeOf
+  finish-ended v e = subst P e (by (eqb v 0) refl)
+    where
+      P : ℕ → Type 0
+      P w = Finishes l (ended (eqb w 0) w (h .mode) (baseOf h l) m a (h .fed + at)) a (concludedBy (eqb v 0) h m at v)
+
+      d : dataOf (m .len) a ≡ take (m .len) a
+      d = data-take (m .len) a (omega arith)
+
+      by : (t : Bool) → eqb v 0 ≡ t → Finishes l (ended t v (h .mode) (baseOf h l) m a (h .fed + at)) a (concludedBy t h m at v)
+      by true q =
+          record {
+            after = λ i.
+                record {
+                  mode = h .mode;
+                  place = on W;
+                  fed = h .fed + at;
+                  accepted = h .accepted + m .pending;
+                  refused = sym (add-zero (h .refused)) i;
+                  outside = m .outside;
+                  pending = 0;
+                  latest = λ j. update j (message (m .id) (take (m .len) a) (m .pending)) (l j);
+                };
+            said = λ i. record { event = Message; id = m .id; body = d i; closed = m .pending };
+            short = short;
+            good = λ z. judge-accepts (modeOf (h .mode)) (m .id) (take (m .len) a) (m .c1) (m .c2) (sym e ∙ eqb-true v 0 q);
+          }
+      by false q =
+          record {
+            after = λ i.
+                record {
+                  mode = h .mode;
+                  place = on W;
+                  fed = h .fed + at;
+                  accepted = sym (add-zero (h .accepted)) i;
+                  refused = h .refused + m .pending;
+                  outside = m .outside;
+                  pending = 0;
+                  latest = l;
+                };
+            said = refl;
+            short = omega arith;
+            good = λ z. not-kept z;
+          }

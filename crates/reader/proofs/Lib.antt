@@ -1,0 +1,9 @@
+pub mod Stepping
+pub mod Feeding
+pub mod Bulk
+pub mod Rows
+pub mod Finishing
+pub mod Deciding
+pub mod Storing
+pub mod Question
+pub mod Beginning

@@ -1,0 +1,12 @@
+-- `reader::Reader::refuse` meets its contract: the record as it was.
+use mathlib.Core.Path.{_≡_, refl}
+use Rattle.reader.specs.View.{dataOf}
+use Rattle.reader.proofs.Reader.refuse.Statement.{statement}
+use Rattle.reader.proofs.Reader.refuse.Tie as tie
+
+returns : tie.Need-returns
+unfolding dataOf
+returns c = record { same = refl; said = refl; taken = refl }
+
+pub refuse-spec : {M : Type 1} → statement M
+refuse-spec = tie.close (tie.spec returns)

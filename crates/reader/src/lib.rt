@@ -1,0 +1,910 @@
+// The reader: a record by value, a fresh one, the single step and the slice call.
+ghost use mathlib.Core.Bool.{true};
+ghost use mathlib.Core.Option.{Option};
+ghost use mathlib.Core.List.{List};
+ghost use mathlib.Core.Path.{_≡_};
+ghost use Prim.Native.Nat.{ℕ, _+_, _-_, _<_, _≤_};
+ghost use lib.ListN.{length, take};
+ghost use Rattle.octets.specs.Stuffing.{dles};
+ghost use Rattle.line.specs.Frame.{modeOf, judge as judgeOf, Acceptable};
+ghost use Rattle.line.specs.Record.{limit, Possible, walk, Kept, Fit};
+ghost use Rattle.line.specs.Record.Kept.{k43, k46, kEB};
+ghost use Rattle.reader.specs.View.{view, latestOf, partsOf, shown};
+ghost use Rattle.reader.specs.Posts.{FreshPost, StepPost, FeedPost, blank as blankOf, Refuses, Reads};
+ghost use Rattle.reader.specs.Moving.{Decides, Usable, Opened, LatestOk, Skips, Fills, Fits, Pends, Sound, Busy, Steps, Goes, Ran, Finishes, went, passed, opened, shut as shutOf, turned, baseOf, startOf, storedBy, headWith, concluded};
+
+// The numbers of the record. Mode and place are numbers, so that a wrong one can be refused.
+pub struct Head {
+    pub mode: u8,
+    pub place: u8,
+    pub id: u8,
+    pub c1: u8,
+    pub c2: u8,
+    pub len: usize,
+    pub accepted: u32,
+    pub refused: u32,
+    pub outside: u32,
+    pub pending: u32,
+    pub fed: u32,
+}
+
+// The latest message of each kind that is kept: whether there is one, and its data.
+pub struct Latest {
+    pub has43: bool,
+    pub d43: [u8; 6],
+    pub has46: bool,
+    pub d46: [u8; 10],
+    pub has4a: bool,
+    pub d4a: [u8; 33],
+    pub has4b: bool,
+    pub d4b: [u8; 42],
+    pub haseb: bool,
+    pub deb: [u8; 26],
+}
+
+pub struct Reader {
+    pub head: Head,
+    pub latest: Latest,
+    pub bytes: [u8; 1024],
+}
+
+// Nothing yet, a message, or a refusal by its number.
+pub enum Event {
+    Nothing,
+    Message,
+    Refusal(u8),
+}
+
+// A message's data are the first `len` bytes.
+pub struct Answer {
+    pub event: Event,
+    pub id: u8,
+    pub len: usize,
+    pub bytes: [u8; 1024],
+    pub closed: u32,
+}
+
+// A fresh reader, or refusal 1 beside a blank record.
+pub struct Fresh {
+    pub refusal: u8,
+    pub reader: Reader,
+}
+
+pub struct Stepped {
+    pub reader: Reader,
+    pub answer: Answer,
+}
+
+pub struct Fed {
+    pub reader: Reader,
+    pub answer: Answer,
+    pub taken: usize,
+}
+
+// The numbers that move in a slice call.
+pub struct Moving {
+    pub place: u8,
+    pub id: u8,
+    pub c1: u8,
+    pub c2: u8,
+    pub len: usize,
+    pub outside: u32,
+    pub pending: u32,
+}
+
+// What is left to do after the numbers have moved.
+pub enum Act {
+    Quiet,
+    Refused(u8),
+    Reopened(u8),
+    Ended,
+}
+
+pub struct Moved {
+    pub now: Moving,
+    pub act: Act,
+    pub last: u8,
+    pub at: usize,
+}
+
+// What an act comes to: the head, the answer's parts, and whether a message was given.
+pub struct Closed {
+    pub head: Head,
+    pub event: Event,
+    pub id: u8,
+    pub len: usize,
+    pub closed: u32,
+    pub keep: bool,
+}
+
+// How many bytes of n can be counted.
+fn span(fed: u32, n: usize) -> usize
+    ensures { λ r. ⌜ (r ≤ n) × (fed + r ≤ limit) × (r < n → fed + r ≡ limit) ⌝ }
+{
+    let most = (Reader::LIMIT - fed) as usize;
+    if most < n { most } else { n }
+}
+
+// Where the array's room, or n, ends.
+fn bound(len: usize, from: usize, n: usize) -> usize
+    requires { ⌜ len ≤ 1024 ⌝ }
+    requires { ⌜ from ≤ n ⌝ }
+    ensures { λ r. ⌜ (from ≤ r) × (r ≤ n) × (len + (r - from) ≤ 1024) × (r < n → len + (r - from) ≡ 1024) ⌝ }
+{
+    if 1024 - len < n - from {
+        from + (1024 - len)
+    } else {
+        n
+    }
+}
+
+// The first DLE from a place on, or n.
+fn skip(s: &[u8], from: usize, n: usize) -> usize
+    requires { ⌜ (from ≤ n) × (n ≤ length (now s)) ⌝ }
+    ensures { λ r. ⌜ Skips (now (s .entry)) from n r ⌝ }
+{
+    let mut at = from;
+    while at < n {
+        if s[at] == Reader::DLE {
+            return at;
+        }
+        at = at + 1;
+    }
+    at
+}
+
+// Stores bytes until a DLE, n or 1,024 held.
+fn fill(d: &mut [u8; 1024], len: usize, s: &[u8], from: usize, n: usize) -> usize
+    requires { ⌜ (len ≤ 1024) × (from ≤ n) × (n ≤ length (now s)) × (length (now d) ≡ 1024) ⌝ }
+    ensures { λ r. ⌜ Fills (now (d .entry)) (now (d .exit)) len (now (s .entry)) from n r ⌝ }
+{
+    let most = bound(len, from, n);
+    let mut at = from;
+    let mut to = len;
+    while at < most {
+        let b = s[at];
+        if b == Reader::DLE {
+            return at;
+        }
+        d[to] = b;
+        to = to + 1;
+        at = at + 1;
+    }
+    at
+}
+
+// The byte is pending, and the place is p.
+fn go(m: Moving, p: u8, at: usize) -> Moved
+    requires { ⌜ m .pending < limit ⌝ }
+    ensures { λ r. ⌜ r ≡ went m p at ⌝ }
+{
+    let mut n = m;
+    n.place = p;
+    n.pending = m.pending + 1;
+    Moved {
+        now: n,
+        act: Act::Quiet,
+        last: 0,
+        at: at,
+    }
+}
+
+// Two bytes stay outside.
+fn pass_by(m: Moving, at: usize) -> Moved
+    requires { ⌜ m .outside + 2 ≤ limit ⌝ }
+    ensures { λ r. ⌜ r ≡ passed m at ⌝ }
+{
+    let mut n = m;
+    n.place = 0;
+    n.pending = 0;
+    n.outside = m.outside + 2;
+    Moved {
+        now: n,
+        act: Act::Quiet,
+        last: 0,
+        at: at,
+    }
+}
+
+// A frame opens.
+fn begin(m: Moving, b: u8, at: usize) -> Moved
+    requires { ⌜ m .pending < limit ⌝ }
+    ensures { λ r. ⌜ r ≡ opened m b at ⌝ }
+{
+    let mut n = m;
+    n.place = 2;
+    n.id = b;
+    n.len = 0;
+    n.pending = m.pending + 1;
+    Moved {
+        now: n,
+        act: Act::Quiet,
+        last: 0,
+        at: at,
+    }
+}
+
+// The byte is pending, and the act closes the frame.
+fn shut(m: Moving, act: Act, b: u8, at: usize) -> Moved
+    requires { ⌜ m .pending < limit ⌝ }
+    ensures { λ r. ⌜ r ≡ shutOf m act b at ⌝ }
+{
+    let mut n = m;
+    n.pending = m.pending + 1;
+    Moved {
+        now: n,
+        act: act,
+        last: b,
+        at: at,
+    }
+}
+
+// W: bytes outside, up to a DLE.
+fn in_w(m: Moving, s: &[u8], at: usize, n: usize) -> Moved
+    requires { ⌜ (at < n) × (n ≤ length (now s)) × (m .place ≡ 0) × (m .pending ≡ 0) ⌝ }
+    requires { ⌜ Fits m at n ⌝ }
+    ensures { λ r. ⌜ ((k : ℕ) (a : List ℕ) → length a ≡ 1024 → Goes k m a a (now (s .entry)) at n r) ⌝ }
+{
+    let to = skip(s, at, n);
+    let mut w = m;
+    w.outside = m.outside + (to - at) as u32;
+    if to < n {
+        return go(w, 1, to + 1);
+    }
+    Moved {
+        now: w,
+        act: Act::Quiet,
+        last: 0,
+        at: to,
+    }
+}
+
+// WD: an identifier opens a frame, a service code does not.
+fn in_wd(m: Moving, b: u8, at: usize, n: usize) -> Moved
+    requires { ⌜ (1 ≤ at) × (at ≤ n) × (m .place ≡ 1) × (m .pending ≡ 1) ⌝ }
+    requires { ⌜ Fits m (at - 1) n ⌝ }
+    ensures { λ r. ⌜ ((k : ℕ) (a : List ℕ) → length a ≡ 1024 → Steps k m a a b at n r) ⌝ }
+{
+    match b {
+        Reader::ETX | Reader::DLE | Reader::SUM => pass_by(m, at),
+        0..=2 | 4..=15 | 17..=254 => begin(m, b, at),
+    }
+}
+
+// F: bytes of data, up to a DLE or one too many.
+fn in_f(m: Moving, d: &mut [u8; 1024], s: &[u8], at: usize, n: usize) -> Moved
+    requires { ⌜ (at < n) × (n ≤ length (now s)) × (m .place ≡ 2) × (length (now d) ≡ 1024) × Pends m (now d) ⌝ }
+    requires { ⌜ Fits m at n ⌝ }
+    ensures { λ r. ⌜ ((k : ℕ) → Goes k m (now (d .entry)) (now (d .exit)) (now (s .entry)) at n r) ⌝ }
+{
+    let len = m.len;
+    let to = fill(d, len, s, at, n);
+    let mut w = m;
+    w.len = len + (to - at);
+    w.pending = m.pending + (to - at) as u32;
+    if to < n {
+        let b = s[to];
+        if b == Reader::DLE {
+            return go(w, 3, to + 1);
+        }
+        return shut(w, Act::Refused(4), b, to + 1);
+    }
+    Moved {
+        now: w,
+        act: Act::Quiet,
+        last: 0,
+        at: to,
+    }
+}
+
+// FD: a DLE of the data, an end, a checksum, or the start of another frame.
+fn in_fd(mode: u8, m: Moving, d: &mut [u8; 1024], b: u8, at: usize, n: usize) -> Moved
+    requires { ⌜ (1 ≤ at) × (at ≤ n) × (m .place ≡ 3) × (length (now d) ≡ 1024) × Pends m (now d) ⌝ }
+    requires { ⌜ Fits m (at - 1) n ⌝ }
+    ensures { λ r. ⌜ Steps mode m (now (d .entry)) (now (d .exit)) b at n r ⌝ }
+    ensures { λ r. ⌜ length (now (d .exit)) ≡ 1024 ⌝ }
+{
+    match b {
+        Reader::DLE => {
+            let k = m.len;
+            if k < 1024 {
+                d[k] = b;
+                let mut w = m;
+                w.len = k + 1;
+                go(w, 2, at)
+            } else {
+                shut(m, Act::Refused(4), b, at)
+            }
+        }
+        Reader::ETX => if mode == 0 {
+            shut(m, Act::Ended, b, at)
+        } else {
+            shut(m, Act::Refused(6), b, at)
+        },
+        Reader::SUM => if mode == 0 {
+            shut(m, Act::Refused(7), b, at)
+        } else {
+            go(m, 4, at)
+        },
+        0..=2 | 4..=15 | 17..=254 => shut(m, Act::Reopened(5), b, at),
+    }
+}
+
+// C0: the first byte of the checksum.
+fn in_c0(m: Moving, b: u8, at: usize, n: usize) -> Moved
+    requires { ⌜ (1 ≤ at) × (at ≤ n) × (m .place ≡ 4) ⌝ }
+    requires { ⌜ Fits m (at - 1) n ⌝ }
+    ensures { λ r. ⌜ ((k : ℕ) (a : List ℕ) → length a ≡ 1024 → Pends m a → Steps k m a a b at n r) ⌝ }
+{
+    let mut w = m;
+    w.c1 = b;
+    go(w, 5, at)
+}
+
+// C1: the second byte of the checksum.
+fn in_c1(m: Moving, b: u8, at: usize, n: usize) -> Moved
+    requires { ⌜ (1 ≤ at) × (at ≤ n) × (m .place ≡ 5) ⌝ }
+    requires { ⌜ Fits m (at - 1) n ⌝ }
+    ensures { λ r. ⌜ ((k : ℕ) (a : List ℕ) → length a ≡ 1024 → Pends m a → Steps k m a a b at n r) ⌝ }
+{
+    let mut w = m;
+    w.c2 = b;
+    go(w, 6, at)
+}
+
+// E: the DLE of the end.
+fn in_e(m: Moving, b: u8, at: usize, n: usize) -> Moved
+    requires { ⌜ (1 ≤ at) × (at ≤ n) × (m .place ≡ 6) × (2 ≤ m .pending) ⌝ }
+    requires { ⌜ Fits m (at - 1) n ⌝ }
+    ensures { λ r. ⌜ ((k : ℕ) (a : List ℕ) → length a ≡ 1024 → Pends m a → Steps k m a a b at n r) ⌝ }
+{
+    if b == Reader::DLE {
+        go(m, 7, at)
+    } else {
+        shut(m, Act::Refused(8), b, at)
+    }
+}
+
+// ED: the end, or the start of another frame.
+fn in_ed(m: Moving, b: u8, at: usize, n: usize) -> Moved
+    requires { ⌜ (1 ≤ at) × (at ≤ n) × (m .place ≡ 7) × (2 ≤ m .pending) ⌝ }
+    requires { ⌜ Fits m (at - 1) n ⌝ }
+    ensures { λ r. ⌜ ((k : ℕ) (a : List ℕ) → Sound k m a → length a ≡ 1024 → Pends m a → Steps k m a a b at n r) ⌝ }
+{
+    match b {
+        Reader::ETX => shut(m, Act::Ended, b, at),
+        Reader::DLE | Reader::SUM => shut(m, Act::Refused(8), b, at),
+        0..=2 | 4..=15 | 17..=254 => shut(m, Act::Reopened(8), b, at),
+    }
+}
+
+// Bytes from one place on: at least one, up to n.
+fn advance(mode: u8, m: Moving, d: &mut [u8; 1024], s: &[u8], at: usize, n: usize) -> Moved
+    requires { ⌜ (at < n) × (n ≤ length (now s)) × (length (now d) ≡ 1024) × Pends m (now d) ⌝ }
+    requires { ⌜ Fits m at n × Sound mode m (now d) ⌝ }
+    ensures { λ r. ⌜ Goes mode m (now (d .entry)) (now (d .exit)) (now (s .entry)) at n r ⌝ }
+{
+    let place = m.place;
+    match place {
+        0 => in_w(m, s, at, n),
+        1 => in_wd(m, s[at], at + 1, n),
+        2 => in_f(m, d, s, at, n),
+        3 => in_fd(mode, m, d, s[at], at + 1, n),
+        4 => in_c0(m, s[at], at + 1, n),
+        5 => in_c1(m, s[at], at + 1, n),
+        6 => in_e(m, s[at], at + 1, n),
+        _ => in_ed(m, s[at], at + 1, n),
+    }
+}
+
+// Bytes up to n, or up to the first event.
+fn run(mode: u8, m0: Moving, d: &mut [u8; 1024], s: &[u8], n: usize) -> Moved
+    requires { ⌜ (n ≤ length (now s)) × (length (now d) ≡ 1024) × Pends m0 (now d) ⌝ }
+    requires { ⌜ Fits m0 0 n × Sound mode m0 (now d) ⌝ }
+    ensures { λ r. ⌜ Ran mode m0 (now (d .entry)) (now (d .exit)) (now (s .entry)) n r ⌝ }
+{
+    let mut m = m0;
+    let mut at: usize = 0;
+    while at < n {
+        let t = advance(mode, m, d, s, at, n);
+        let act = t.act;
+        match act {
+            Act::Quiet => {
+                m = t.now;
+                at = t.at;
+            }
+            Act::Refused(_) => {
+                return t;
+            }
+            Act::Reopened(_) => {
+                return t;
+            }
+            Act::Ended => {
+                return t;
+            }
+        }
+    }
+    Moved {
+        now: m,
+        act: Act::Quiet,
+        last: 0,
+        at: at,
+    }
+}
+
+// Questions 9 to 12 of a frame that ends.
+fn judge(mode: u8, id: u8, d: &[u8], len: usize, c1: u8, c2: u8) -> u8
+    requires { ⌜ len ≤ length (now d) ⌝ }
+    ensures { λ r. ⌜ r ≡ judgeOf (modeOf mode) id (take len (now (d .entry))) c1 c2 ⌝ }
+{
+    if mode == 0 {
+        return kinds::content(id, &d[..len]);
+    }
+    let sum = checksum::message(id, &d[..len]);
+    if c1 as u16 == sum % 256 {
+        if c2 as u16 == sum / 256 {
+            return kinds::content(id, &d[..len]);
+        }
+    }
+    9
+}
+
+// The head after a call, but for accepted and refused.
+fn put(h: Head, m: Moving, at: usize, place: u8, id: u8, len: usize, pending: u32) -> Head
+    requires { ⌜ h .fed + at ≤ limit ⌝ }
+    ensures { λ r. ⌜ r ≡ headWith h m at place id len pending ⌝ }
+{
+    Head {
+        mode: h.mode,
+        place: place,
+        id: id,
+        c1: m.c1,
+        c2: m.c2,
+        len: len,
+        accepted: h.accepted,
+        refused: h.refused,
+        outside: m.outside,
+        pending: pending,
+        fed: h.fed + at as u32,
+    }
+}
+
+// The moving numbers of a head: a length that has no meaning is 0.
+fn start(h: Head) -> Moving
+    ensures { λ r. ⌜ r ≡ startOf h ⌝ }
+{
+    if h.place < 2 {
+        return Moving {
+            place: h.place,
+            id: h.id,
+            c1: h.c1,
+            c2: h.c2,
+            len: 0,
+            outside: h.outside,
+            pending: h.pending,
+        };
+    }
+    Moving {
+        place: h.place,
+        id: h.id,
+        c1: h.c1,
+        c2: h.c2,
+        len: h.len,
+        outside: h.outside,
+        pending: h.pending,
+    }
+}
+
+// A frame that ended is a message, or refused by v.
+fn conclude(h: Head, m: Moving, at: usize, v: u8) -> Closed
+    requires { ⌜ (h .fed + at ≤ limit) × (h .accepted + m .pending ≤ limit) × (h .refused + m .pending ≤ limit) ⌝ }
+    ensures { λ r. ⌜ r ≡ concluded h m at v ⌝ }
+{
+    let mut g = put(h, m, at, 0, m.id, m.len, 0);
+    if v == 0 {
+        g.accepted = h.accepted + m.pending;
+        return Closed {
+            head: g,
+            event: Event::Message,
+            id: m.id,
+            len: m.len,
+            closed: m.pending,
+            keep: true,
+        };
+    }
+    g.refused = h.refused + m.pending;
+    Closed {
+        head: g,
+        event: Event::Refusal(v),
+        id: m.id,
+        len: 0,
+        closed: m.pending,
+        keep: false,
+    }
+}
+
+// What the act comes to.
+fn finish(h: Head, t: Moved, d: &[u8]) -> Closed
+    requires { ⌜ (h .fed + t .at ≤ limit) × (h .fed + t .at ≡ h .accepted + h .refused + t .now .outside + t .now .pending) ⌝ }
+    requires { ⌜ (t .now .place < 8) × (t .now .len ≤ 1024) × (length (now d) ≡ 1024) ⌝ }
+    requires { ⌜ Busy (t .act) (t .now) ⌝ }
+    ensures { λ r. ⌜ ((l : (Kept → Option (List ℕ))) → Finishes l (turned (h .mode) (baseOf h l) (t .act) (t .now) (t .last) (now (d .entry)) (h .fed + t .at)) (now (d .entry)) r) ⌝ }
+{
+    let m = t.now;
+    let at = t.at;
+    let act = t.act;
+    match act {
+        Act::Quiet => {
+            let g = put(h, m, at, m.place, m.id, m.len, m.pending);
+            Closed {
+                head: g,
+                event: Event::Nothing,
+                id: 0,
+                len: 0,
+                closed: 0,
+                keep: false,
+            }
+        }
+        Act::Refused(v) => {
+            let mut g = put(h, m, at, 0, m.id, m.len, 0);
+            g.refused = h.refused + m.pending;
+            Closed {
+                head: g,
+                event: Event::Refusal(v),
+                id: m.id,
+                len: 0,
+                closed: m.pending,
+                keep: false,
+            }
+        }
+        Act::Reopened(v) => {
+            let mut g = put(h, m, at, 2, t.last, 0, 2);
+            g.refused = h.refused + (m.pending - 2);
+            Closed {
+                head: g,
+                event: Event::Refusal(v),
+                id: m.id,
+                len: 0,
+                closed: m.pending - 2,
+                keep: false,
+            }
+        }
+        Act::Ended => {
+            let v = judge(h.mode, m.id, d, m.len, m.c1, m.c2);
+            conclude(h, m, at, v)
+        }
+    }
+}
+
+// The latest messages, once a message is given.
+fn store(l: Latest, id: u8, d: &[u8], len: usize) -> Latest
+    requires { ⌜ (len ≤ length (now d)) × Acceptable id (take len (now d)) ⌝ }
+    ensures { λ r. ⌜ ((i : Kept) → latestOf r i ≡ storedBy true id (take len (now (d .entry))) (latestOf l) i) ⌝ }
+{
+    let mut n = l;
+    match id {
+        0x43 => {
+            let mut x = [0u8; 6];
+            octets::put(&d[..len], &mut x, 0);
+            n.has43 = true;
+            n.d43 = x;
+            n
+        }
+        0x46 => {
+            let mut x = [0u8; 10];
+            octets::put(&d[..len], &mut x, 0);
+            n.has46 = true;
+            n.d46 = x;
+            n
+        }
+        0x4A => {
+            let mut x = [0u8; 33];
+            octets::put(&d[..len], &mut x, 0);
+            n.has4a = true;
+            n.d4a = x;
+            n
+        }
+        0x4B => {
+            let mut x = [0u8; 42];
+            octets::put(&d[..len], &mut x, 0);
+            n.has4b = true;
+            n.d4b = x;
+            n
+        }
+        0xEB => {
+            let mut x = [0u8; 26];
+            octets::put(&d[..len], &mut x, 0);
+            n.haseb = true;
+            n.deb = x;
+            n
+        }
+        _ => n,
+    }
+}
+
+// Question 2, by its clauses.
+
+// An identifier that is no service code.
+fn usable(id: u8) -> bool
+    ensures { λ r. ⌜ Decides (Usable id) r ⌝ }
+{
+    match id {
+        Reader::ETX | Reader::DLE | Reader::SUM => false,
+        0..=2 | 4..=15 | 17..=254 => true,
+    }
+}
+
+// An open frame's place, identifier and length.
+fn open(h: Head) -> bool
+    ensures { λ r. ⌜ Decides (Opened h) r ⌝ }
+{
+    if 8 <= h.place {
+        return false;
+    }
+    if 1024 < h.len {
+        return false;
+    }
+    if h.mode == 0 {
+        if 4 <= h.place {
+            return false;
+        }
+        return usable(h.id);
+    }
+    usable(h.id)
+}
+
+// Whether fed is the sum of the other four counts. By differences, so that no wider number is needed.
+fn balanced(h: Head) -> bool
+    ensures { λ r. ⌜ Decides (h .fed ≡ h .accepted + h .refused + h .outside + h .pending) r ⌝ }
+{
+    if h.fed < h.accepted {
+        return false;
+    }
+    let a = h.fed - h.accepted;
+    if a < h.refused {
+        return false;
+    }
+    let b = a - h.refused;
+    if b < h.outside {
+        return false;
+    }
+    let c = b - h.outside;
+    if c == h.pending { true } else { false }
+}
+
+// Whether the latest message of a kind, if any, is acceptable. Any 33 or 42 bytes are an acceptable 4Ah or 4Bh.
+fn fits_43(l: Latest) -> bool
+    ensures { λ r. ⌜ Decides (Fit 0x43 (latestOf l k43)) r ⌝ }
+{
+    if l.has43 {
+        let d = l.d43;
+        return kinds::acceptable_43(&d);
+    }
+    true
+}
+
+fn fits_46(l: Latest) -> bool
+    ensures { λ r. ⌜ Decides (Fit 0x46 (latestOf l k46)) r ⌝ }
+{
+    if l.has46 {
+        let d = l.d46;
+        return kinds::acceptable_46(&d);
+    }
+    true
+}
+
+fn fits_eb(l: Latest) -> bool
+    ensures { λ r. ⌜ Decides (Fit 0xEB (latestOf l kEB)) r ⌝ }
+{
+    if l.haseb {
+        let d = l.deb;
+        return kinds::acceptable_eb(&d);
+    }
+    true
+}
+
+fn latest_ok(l: Latest) -> bool
+    ensures { λ r. ⌜ Decides (LatestOk l) r ⌝ }
+{
+    if !fits_43(l) {
+        return false;
+    }
+    if !fits_46(l) {
+        return false;
+    }
+    fits_eb(l)
+}
+
+// The pending bytes of an open frame: its place, its data and each DLE among them once more.
+fn pending_of(h: Head, d: &[u8]) -> usize
+    requires { ⌜ (h .len ≤ 1024) × (length (now d) ≡ 1024) ⌝ }
+    ensures { λ r. ⌜ r ≡ h .place + (h .len + dles (take (h .len) (now (d .entry)))) ⌝ }
+{
+    let len = h.len;
+    h.place as usize + (len + octets::count_dle(&d[..len]))
+}
+
+impl Reader {
+    // The service codes.
+    pub const DLE: u8 = 0x10;
+
+    pub const ETX: u8 = 0x03;
+
+    pub const SUM: u8 = 0xFF;
+
+    // The largest number of bytes that can be counted.
+    pub const LIMIT: u32 = 4294967295;
+
+    // A record of a mode that has taken nothing.
+    fn blank(mode: u8) -> Reader
+        ensures { λ r. ⌜ r ≡ blankOf mode ⌝ }
+    {
+        let head = Head {
+            mode: mode,
+            place: 0,
+            id: 0,
+            c1: 0,
+            c2: 0,
+            len: 0,
+            accepted: 0,
+            refused: 0,
+            outside: 0,
+            pending: 0,
+            fed: 0,
+        };
+        let latest = Latest {
+            has43: false,
+            d43: [0u8; 6],
+            has46: false,
+            d46: [0u8; 10],
+            has4a: false,
+            d4a: [0u8; 33],
+            has4b: false,
+            d4b: [0u8; 42],
+            haseb: false,
+            deb: [0u8; 26],
+        };
+        let bytes = [0u8; 1024];
+        Reader {
+            head: head,
+            latest: latest,
+            bytes: bytes,
+        }
+    }
+
+    // A fresh reader of mode 0 or 1; any other mode is refused by 1.
+    pub fn fresh(mode: u8) -> Fresh
+        ensures { λ r. ⌜ FreshPost mode r ⌝ }
+    {
+        let reader = Reader::blank(mode);
+        if mode <= 1 {
+            return Fresh {
+                refusal: 0,
+                reader: reader,
+            };
+        }
+        Fresh {
+            refusal: 1,
+            reader: reader,
+        }
+    }
+
+    // Refused by 1, 2 or 3: the record as it was, and an answer with nothing in it.
+    fn refuse(self, n: u8) -> Fed
+        ensures { λ r. ⌜ Refuses n self r ⌝ }
+    {
+        let bytes = self.bytes;
+        let answer = Answer {
+            event: Event::Refusal(n),
+            id: 0,
+            len: 0,
+            bytes: bytes,
+            closed: 0,
+        };
+        Fed {
+            reader: self,
+            answer: answer,
+            taken: 0,
+        }
+    }
+
+    // Steps over a slice until the first event, its end or the limit: the caller has asked questions 1 and 2.
+    fn read(self, s: &[u8]) -> Fed
+        requires { ⌜ (self .head .mode ≤ 1) × Possible (view self) ⌝ }
+        ensures { λ r. ⌜ Reads (walk (view self) (now (s .entry))) r ⌝ }
+    {
+        let h = self.head;
+        let mut r = self;
+        let n = span(h.fed, s.len());
+        let w = start(h);
+        let t = run(h.mode, w, &mut r.bytes, s, n);
+        let o = finish(h, t, &r.bytes);
+        let g = o.head;
+        r.head = g;
+        let e = o.event;
+        let bytes = r.bytes;
+        let a = Answer {
+            event: e,
+            id: o.id,
+            len: o.len,
+            bytes: bytes,
+            closed: o.closed,
+        };
+        if o.keep {
+            let old = r.latest;
+            let l = store(old, o.id, &bytes, o.len);
+            r.latest = l;
+            return Fed {
+                reader: r,
+                answer: a,
+                taken: t.at,
+            };
+        }
+        Fed {
+            reader: r,
+            answer: a,
+            taken: t.at,
+        }
+    }
+
+    // Question 2.
+    fn possible(self) -> bool
+        ensures { λ r. ⌜ Decides (Possible (view self)) r ⌝ }
+    {
+        let h = self.head;
+        if !balanced(h) {
+            return false;
+        }
+        let l = self.latest;
+        if !latest_ok(l) {
+            return false;
+        }
+        if h.place < 2 {
+            if h.pending == h.place as u32 {
+                return true;
+            }
+            return false;
+        }
+        if !open(h) {
+            return false;
+        }
+        let d = self.bytes;
+        if h.pending as usize == pending_of(h, &d) {
+            return true;
+        }
+        false
+    }
+
+    // The slice call: bytes up to the first event, the end of the slice or the limit.
+    pub fn feed(self, s: &[u8]) -> Fed
+        ensures { λ r. ⌜ FeedPost self (now (s .entry)) r ⌝ }
+    {
+        let h = self.head;
+        if 2 <= h.mode {
+            return self.refuse(1);
+        }
+        if !self.possible() {
+            return self.refuse(2);
+        }
+        if h.fed >= Reader::LIMIT {
+            if 0 < s.len() {
+                return self.refuse(3);
+            }
+        }
+        self.read(s)
+    }
+
+    // The single step: the slice call on one byte.
+    pub fn step(self, b: u8) -> Stepped
+        ensures { λ r. ⌜ StepPost self b r ⌝ }
+    {
+        let one = [b];
+        let f = self.feed(&one);
+        let reader = f.reader;
+        let answer = f.answer;
+        Stepped {
+            reader: reader,
+            answer: answer,
+        }
+    }
+}
