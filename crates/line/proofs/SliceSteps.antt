@@ -103,7 +103,7 @@ turned r b x t e =
     cond t (orStop e (oneMore x) (record { after = stepped r b; answer = e; taken = 1 }))
     (record { after = r; answer = nothing; taken = 0 })
 
-walk-fits : (bs : List ℕ) (r : Rec) → walk r bs .taken ≤ length bs
+pub walk-fits : (bs : List ℕ) (r : Rec) → walk r bs .taken ≤ length bs
 walk-fits [] r = omega arith
 walk-fits (b ∷ bs) r = by (ltb (r .fed) limit) (eventOf r b) (walk-fits bs (stepped r b))
   where

@@ -7,3 +7,5 @@ pub mod Deciding
 pub mod Storing
 pub mod Question
 pub mod Beginning
+pub mod Demand3
+pub mod Slices

@@ -1,6 +1,6 @@
 -- What a fresh reader, a step and a slice call return and leave, on the record in memory; and demand 3's list of calls on it.
 use mathlib.Core.Bool.{false}
-use mathlib.Core.List.{List}
+use mathlib.Core.List.{List, [], _∷_}
 use mathlib.Core.Path.{_≡_}
 use Prim.Native.Nat.{ℕ, _≤_, _<_}
 use lib.ListN.{length, replicate}
@@ -70,3 +70,8 @@ pub data Trace (m : ℕ) : History → Reader → Type 0 where
       → Trace m (call h (step b) (stepTook a) a) (x .reader)
   fed : {h : History} {r : Reader} {bs : List ℕ} {a : Said} (x : Fed) → Trace m h r → FeedPost r bs x → partsOf (x .answer) ≡ shown a
       → Trace m (call h (feed bs) (x .taken) a) (x .reader)
+
+-- one or more single steps, one after the other: the record before, the bytes, what the last step returned
+pub data Steps : Reader → List ℕ → Stepped → Type 0 where
+  last : {r : Reader} {b : ℕ} {x : Stepped} → StepPost r b x → Steps r (b ∷ []) x
+  more : {r : Reader} {b : ℕ} {bs : List ℕ} {x : Stepped} (y : Stepped) → StepPost r b y → Steps (y .reader) bs x → Steps r (b ∷ bs) x
