@@ -1,0 +1,2 @@
+pub mod WrittenLaws
+pub mod AcceptedLaws

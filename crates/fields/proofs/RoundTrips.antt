@@ -1,0 +1,248 @@
+-- The round trips of the short kinds. Reading what was written gives the fields, with those past the count blank; writing what was
+-- read gives the data.
+use mathlib.Core.Path.{_≡_, refl, sym, ap, _∙_}
+use mathlib.Core.Bool.{Bool, true, false, cond, not, _&&_, _||_, and-eq-true-iff}
+use mathlib.Core.List.{List, [], _∷_}
+use mathlib.Core.Logic.{_⊎_, inl, inr}
+use Prim.Native.Nat.{ℕ, _+_, _*_, _/_, _%_, _≤_, _<_}
+use native.Mathlib.Omega.{arith}
+use borrow.Author.Tests.{eq-eqb, eqb-true, eqb-false, le-leb, leb-true}
+use lib.Dec.{eqb, leb}
+use lib.ListN.{length, take}
+use lib.Seq.{length-take-le}
+use lib.Signed.{mag}
+use Rattle.octets.specs.Placing.{placed}
+use Rattle.octets.specs.Signed.{signed}
+use Rattle.octets.proofs.SignedLaws.{signed-unsigned, unsigned-signed}
+use Rattle.kinds.specs.Ranges.{all, byte, antenna, free, in1F, in20, in23, in43}
+use Rattle.kinds.specs.Kinds.{table, rowIn, only, content}
+use Rattle.kinds.proofs.CountLaws.{all-at}
+use Rattle.encoding.specs.Written.{refused, accepted, writtenOf}
+use Rattle.encoding.proofs.WrittenLaws.{asked, written-judged, written-back, written-anew}
+use Rattle.encoding.proofs.AcceptedLaws.{Bytes, accepted-parts, two-lengths, one-length, spelled}
+use Rattle.fields.specs.declared.OneByte.{OneByte}
+use Rattle.fields.specs.declared.Satellite.{Satellite}
+use Rattle.fields.specs.declared.Zone.{Zone}
+use Rattle.fields.specs.declared.Outcome.{Outcome}
+use Rattle.fields.specs.Families.{emptyKind, judgeEmpty, writeEmpty, fillEmpty}
+use Rattle.fields.specs.Families.{oneByteKind, oneByteOf, blankOneByte, readOneByte, oneByteData, writeOneByte, fillOneByte}
+use Rattle.fields.specs.Fields.{satelliteOf, read20, data20, write20, fill20}
+use Rattle.fields.specs.Fields.{zoneOf, blank23, read23, data23, write23, fill23}
+use Rattle.fields.specs.Fields.{resultOf, read43, bitOf, resultByte, data43, room43, write43, fill43}
+
+-- 20h
+pub read-written-20 : (f : Satellite) (b : List ℕ) → write20 f b .refusal ≡ 0
+    → read20 (take (write20 f b .length) (fill20 f b)) ≡ record { refusal = 0; fields = f }
+unfolding read20
+read-written-20 f b z =
+    let j = written-judged 0x20 (data20 f) b z in
+    rw (written-back 0x20 (data20 f) b z, eq-eqb _ _ (j .0), j .0)
+
+pub written-read-20 : (d b : List ℕ) → read20 d .refusal ≡ 0 → length d ≤ length b
+    → (write20 (read20 d .fields) b ≡ accepted (length d)) × (fill20 (read20 d .fields) b ≡ placed b 0 d)
+unfolding read20 table rowIn
+written-read-20 d b h k =
+    let q : data20 (satelliteOf d) ≡ d = spelled 2 0 d (one-length 0x20 2 in20 d refl h) in
+    rw (eq-eqb _ _ h) (written-anew 0x20 d b (data20 (satelliteOf d)) q h k)
+
+-- 23h: without bytes there is no zone
+abbrev pub kept23 : Zone → Zone
+kept23 f = cond (eqb (f .count) 2) f blank23
+
+zone-kept : (f : Zone) → mag (f .hours) < 128 → mag (f .minutes) < 128 → (f .count ≡ 0) ⊎ (f .count ≡ 2) → zoneOf (data23 f) ≡ kept23 f
+unfolding signed
+zone-kept f hh hm (inl c) = rw c
+zone-kept f hh hm (inr c) =
+    rw c (λ k. record {
+      count = 2;
+      hours = signed-unsigned 8 (f .hours) (omega arith) hh k;
+      minutes = signed-unsigned 8 (f .minutes) (omega arith) hm k;
+    })
+
+zone-data : (d : List ℕ) → Bytes d → (length d ≡ 0) ⊎ (length d ≡ 2) → data23 (zoneOf d) ≡ d
+zone-data d y (inl e) = rw e (spelled 0 0 d e)
+zone-data d y (inr e) =
+    rw (e, unsigned-signed 8 (byte d 0) (y 0 (omega arith)), unsigned-signed 8 (byte d 1) (y 1 (omega arith))) (spelled 2 0 d e)
+
+pub read-written-23 : (f : Zone) (b : List ℕ) → mag (f .hours) < 128 → mag (f .minutes) < 128 → write23 f b .refusal ≡ 0
+    → read23 (take (write23 f b .length) (fill23 f b)) ≡ record { refusal = 0; fields = kept23 f }
+unfolding read23 write23 fill23 table rowIn
+read-written-23 f b hh hm z =
+    let d = data23 f in
+    let w = asked (leb (f .count) 2) (writtenOf 0x23 d b) 11 (λ e. omega arith) z in
+    let j = written-judged 0x23 d b (w .1) in
+    let n : length d ≡ f .count = length-take-le (f .count) _ (leb-true (f .count) 2 (w .0)) in
+    let l : (f .count ≡ 0) ⊎ (f .count ≡ 2) = rw n at (two-lengths 0x23 0 2 in23 d refl (j .0)) in
+    rw (w .0, written-back 0x23 d b (w .1), eq-eqb _ _ (j .0), j .0, zone-kept f hh hm l)
+
+pub written-read-23 : (d b : List ℕ) → Bytes d → read23 d .refusal ≡ 0 → length d ≤ length b
+    → (write23 (read23 d .fields) b ≡ accepted (length d)) × (fill23 (read23 d .fields) b ≡ placed b 0 d)
+unfolding read23 write23 fill23 table rowIn
+written-read-23 d b y h k =
+    let l = two-lengths 0x23 0 2 in23 d refl h in
+    let n : length d ≤ 2 = elim l [ inl e ↦ omega arith | inr e ↦ omega arith ] in
+    rw (eq-eqb _ _ h, le-leb (length d) 2 n) (written-anew 0x23 d b (data23 (zoneOf d)) (zone-data d y l) h k)
+
+-- 43h
+parts : (a g p l : ℕ) → a ≤ 3 → g ≤ 1 → p ≤ 1 → l ≤ 15 → let x = a * 64 + g * 32 + p * 16 + l in
+    (antenna x ≡ a) × (x / 32 % 2 ≡ g) × (x / 16 % 2 ≡ p) × (x % 16 ≡ l)
+parts a g p l ha hg hp hl = (omega arith, omega arith, omega arith, omega arith)
+
+digits : (b x y z : ℕ) → z < 4 → x * 16 + b % 16 ≡ b → y * 2 + x % 2 ≡ x → z * 2 + y % 2 ≡ y → z % 4 * 64 + y % 2 * 32 + x % 2 * 16 + b % 16 ≡ b
+digits b x y z l p q r = let e : z % 4 ≡ z = omega arith in omega arith
+
+whole : (b : ℕ) → b < 256 → antenna b * 64 + b / 32 % 2 * 32 + b / 16 % 2 * 16 + b % 16 ≡ b
+whole b h =
+    let q : b / 32 ≡ b / 16 / 2 = omega arith in
+    let r : b / 64 ≡ b / 16 / 2 / 2 = omega arith in
+    rw (q, r) (digits b (b / 16) (b / 16 / 2) (b / 16 / 2 / 2) (omega arith) (omega arith) (omega arith) (omega arith))
+
+bit-le : (t : Bool) → bitOf t ≤ 1
+bit-le true = omega arith
+bit-le false = omega arith
+
+bit-read : (t : Bool) → eqb (bitOf t) 1 ≡ t
+bit-read true = refl
+bit-read false = refl
+
+bit-written : (n : ℕ) → n ≤ 1 → bitOf (eqb n 1) ≡ n
+bit-written n h = go (eqb n 1) refl
+  where
+    go : (t : Bool) → eqb n 1 ≡ t → bitOf t ≡ n
+    go true e = sym (eqb-true n 1 e)
+    go false e = let q = eqb-false n 1 e in omega arith
+
+result-kept : (f : Outcome) → room43 f ≡ true → resultOf (resultByte f) ≡ f
+result-kept f r =
+    let b = and-eq-true-iff (leb (f .antenna) 3) (leb (f .low) 15) .0 r in
+    let p = parts (f .antenna) (bitOf (f .glonass)) (bitOf (f .gps)) (f .low) (leb-true (f .antenna) 3 (b .0)) (bit-le (f .glonass)) (bit-le (f .gps)) (leb-true (f .low) 15 (b .1)) in
+    λ k. record {
+      antenna = p .0 k;
+      glonass = (ap (λ (n : ℕ). eqb n 1) (p .1) ∙ bit-read (f .glonass)) k;
+      gps = (ap (λ (n : ℕ). eqb n 1) (p .2) ∙ bit-read (f .gps)) k;
+      low = p .3 k;
+    }
+
+pub antenna-of : (f : Outcome) → room43 f ≡ true → antenna (resultByte f) ≡ f .antenna
+antenna-of f r = ap (λ (o : Outcome). o .antenna) (result-kept f r)
+
+result-data : (b : ℕ) → b < 256 → resultByte (resultOf b) ≡ b
+result-data b h = rw (bit-written (b / 32 % 2) (omega arith), bit-written (b / 16 % 2) (omega arith)) (whole b h)
+
+result-room : (b : ℕ) → room43 (resultOf b) ≡ true
+result-room b = and-eq-true-iff _ _ .1 (le-leb (antenna b) 3 (omega arith), le-leb (b % 16) 15 (omega arith))
+
+pub read-written-43 : (f : Outcome) (b : List ℕ) → write43 f b .refusal ≡ 0
+    → read43 (take (write43 f b .length) (fill43 f b)) ≡ record { refusal = 0; fields = f }
+unfolding read43 write43 fill43
+read-written-43 f b z =
+    let d = data43 f in
+    let w = asked (room43 f) (writtenOf 0x43 d b) 12 (λ e. omega arith) z in
+    let j = written-judged 0x43 d b (w .1) in
+    rw (w .0, written-back 0x43 d b (w .1), eq-eqb _ _ (j .0), j .0, result-kept f (w .0))
+
+-- acceptable data is its result byte between a 2 and four zeros
+outcome-data : (d : List ℕ) → Bytes d → content 0x43 d ≡ 0 → data43 (resultOf (byte d 1)) ≡ d
+unfolding table rowIn
+outcome-data d y h =
+    let n : length d ≡ 6 = one-length 0x43 6 in43 d refl h in
+    let zero : ℕ → Bool = λ i. eqb (byte d (2 + i)) 0 in
+    let p = and-eq-true-iff (eqb (byte d 0) 2 && not (eqb (antenna (byte d 1)) 2)) (all 4 zero) .0 (accepted-parts 0x43 (only 0x43 6 in43) d refl h .1) in
+    let two = eqb-true (byte d 0) 2 (and-eq-true-iff (eqb (byte d 0) 2) (not (eqb (antenna (byte d 1)) 2)) .0 (p .0) .0) in
+    let nul : (i : ℕ) → i < 4 → 0 ≡ byte d (2 + i) = λ i l. sym (eqb-true (byte d (2 + i)) 0 (all-at 4 zero (p .1) i l)) in
+    (λ k. sym two k ∷ result-data (byte d 1) (y 1 (omega arith)) k ∷ nul 0 (omega arith) k ∷ nul 1 (omega arith) k ∷ nul 2 (omega arith) k ∷ nul 3 (omega arith) k ∷ [])
+    ∙ spelled 6 0 d n
+
+pub written-read-43 : (d b : List ℕ) → Bytes d → read43 d .refusal ≡ 0 → length d ≤ length b
+    → (write43 (read43 d .fields) b ≡ accepted (length d)) × (fill43 (read43 d .fields) b ≡ placed b 0 d)
+unfolding read43 write43 fill43
+written-read-43 d b y h k =
+    rw (eq-eqb _ _ h, result-room (byte d 1)) (written-anew 0x43 d b (data43 (resultOf (byte d 1))) (outcome-data d y h) h k)
+
+-- the kinds of one byte: without it there is no value
+abbrev pub keptOneByte : OneByte → OneByte
+keptOneByte f = cond (eqb (f .count) 0) blankOneByte f
+
+one-byte-kept : (f : OneByte) → f .count ≤ 1 → oneByteOf (oneByteData f) ≡ keptOneByte f
+one-byte-kept f h = go (eqb (f .count) 0) refl
+  where
+    go : (t : Bool) → eqb (f .count) 0 ≡ t → oneByteOf (oneByteData f) ≡ keptOneByte f
+    go true e = let c : f .count ≡ 0 = eqb-true (f .count) 0 e in rw c
+    go false e = let q = eqb-false (f .count) 0 e in let c : f .count ≡ 1 = omega arith in rw c
+
+one-byte-data : (d : List ℕ) → length d ≤ 1 → oneByteData (oneByteOf d) ≡ d
+one-byte-data d h = go (eqb (length d) 0) refl
+  where
+    go : (t : Bool) → eqb (length d) 0 ≡ t → oneByteData (oneByteOf d) ≡ d
+    go true e = let c : length d ≡ 0 = eqb-true (length d) 0 e in rw c (spelled 0 0 d c)
+    go false e = let q = eqb-false (length d) 0 e in let c : length d ≡ 1 = omega arith in rw c (spelled 1 0 d c)
+
+-- what holds of one identifier more
+either : (P : ℕ → Type 0) (id x : ℕ) (t : Bool) → P x → (t ≡ true → P id) → t || eqb id x ≡ true → P id
+either P id x true p rest e = rest refl
+either P id x false p rest e = rw (eqb-true id x e) p
+
+one-byte-length : (id : ℕ) (d : List ℕ) → oneByteKind id ≡ true → content id d ≡ 0 → length d ≤ 1
+unfolding table rowIn
+one-byte-length id d =
+    let P : ℕ → Type 0 = λ i. content i d ≡ 0 → length d ≤ 1 in
+    let one : (i : ℕ) → (content i d ≡ 0 → (length d ≡ 0) ⊎ (length d ≡ 1)) → P i = λ i g h. elim (g h) [ inl e ↦ omega arith | inr e ↦ omega arith ] in
+    let a : Bool = eqb id 0x21 in
+    let b : Bool = a || eqb id 0x24 in
+    let c : Bool = b || eqb id 0x27 in
+    let e : Bool = c || eqb id 0x2A in
+    let f : Bool = e || eqb id 0x1F in
+    either P id 0xF4 f (λ h. omega (arith, one-length 0xF4 1 free d refl h))
+    (either P id 0x1F e (one 0x1F (two-lengths 0x1F 0 1 in1F d refl))
+    (either P id 0x2A c (one 0x2A (two-lengths 0x2A 0 1 free d refl))
+    (either P id 0x27 b (one 0x27 (two-lengths 0x27 0 1 free d refl))
+    (either P id 0x24 a (one 0x24 (two-lengths 0x24 0 1 free d refl))
+    (λ q. rw (eqb-true id 0x21 q) (one 0x21 (two-lengths 0x21 0 1 free d refl)))))))
+
+pub read-written-one-byte : (id : ℕ) (f : OneByte) (b : List ℕ) → writeOneByte id f b .refusal ≡ 0
+    → readOneByte id (take (writeOneByte id f b .length) (fillOneByte id f b)) ≡ record { refusal = 0; fields = keptOneByte f }
+unfolding readOneByte writeOneByte fillOneByte
+read-written-one-byte id f b z =
+    let d = oneByteData f in
+    let k = asked (oneByteKind id) (cond (leb (f .count) 1) (writtenOf id d b) (refused 11)) 10 (λ e. omega arith) z in
+    let w = asked (leb (f .count) 1) (writtenOf id d b) 11 (λ e. omega arith) (k .1) in
+    let j = written-judged id d b (w .1) in
+    rw (k .0, w .0, written-back id d b (w .1), j .0, one-byte-kept f (leb-true (f .count) 1 (w .0)))
+
+pub written-read-one-byte : (id : ℕ) (d b : List ℕ) → readOneByte id d .refusal ≡ 0 → length d ≤ length b
+    → (writeOneByte id (readOneByte id d .fields) b ≡ accepted (length d)) × (fillOneByte id (readOneByte id d .fields) b ≡ placed b 0 d)
+unfolding readOneByte writeOneByte fillOneByte
+written-read-one-byte id d b z k = go (oneByteKind id) refl z
+  where
+    go : (t : Bool) → oneByteKind id ≡ t → cond t (content id d) 10 ≡ 0
+        → (writeOneByte id (readOneByte id d .fields) b ≡ accepted (length d)) × (fillOneByte id (readOneByte id d .fields) b ≡ placed b 0 d)
+    go true e h =
+        let n = one-byte-length id d e h in
+        rw (e, eq-eqb _ _ h, le-leb (length d) 1 n) (written-anew id d b (oneByteData (oneByteOf d)) (one-byte-data d n) h k)
+    go false e h = absurd (omega arith)
+
+-- the kinds without data
+empty-length : (id : ℕ) (d : List ℕ) → emptyKind id ≡ true → content id d ≡ 0 → length d ≡ 0
+unfolding table rowIn
+empty-length id d =
+    let P : ℕ → Type 0 = λ i. content i d ≡ 0 → length d ≡ 0 in
+    let a : Bool = eqb id 0x1B in
+    let b : Bool = a || eqb id 0x1E in
+    let c : Bool = b || eqb id 0x26 in
+    either P id 0x54 c (one-length 0x54 0 free d refl)
+    (either P id 0x26 b (one-length 0x26 0 free d refl)
+    (either P id 0x1E a (one-length 0x1E 0 free d refl)
+    (λ q. rw (eqb-true id 0x1B q) (one-length 0x1B 0 free d refl))))
+
+pub read-written-empty : (id : ℕ) (b : List ℕ) → writeEmpty id b .refusal ≡ 0 → judgeEmpty id (take (writeEmpty id b .length) (fillEmpty id b)) ≡ 0
+read-written-empty id b z =
+    let k = asked (emptyKind id) (writtenOf id [] b) 10 (λ e. omega arith) z in
+    rw (k .0, written-back id [] b (k .1)) (written-judged id [] b (k .1) .0)
+
+pub written-read-empty : (id : ℕ) (d b : List ℕ) → judgeEmpty id d ≡ 0 → length d ≤ length b
+    → (writeEmpty id b ≡ accepted (length d)) × (fillEmpty id b ≡ placed b 0 d)
+written-read-empty id d b z k = go (emptyKind id) refl z
+  where
+    go : (t : Bool) → emptyKind id ≡ t → cond t (content id d) 10 ≡ 0 → (writeEmpty id b ≡ accepted (length d)) × (fillEmpty id b ≡ placed b 0 d)
+    go true e h = rw e (written-anew id d b [] (spelled 0 0 d (empty-length id d e h)) h k)
+    go false e h = absurd (omega arith)

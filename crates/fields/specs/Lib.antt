@@ -1,0 +1,2 @@
+pub mod Families
+pub mod Fields
