@@ -29,6 +29,7 @@ walk-limit (b ∷ bs) v h = by (ltb (v .fed) limit) refl (eventOf v b) (λ l. wa
   where
     x : Result
     x = walk (stepped v b) bs
+
     by : (t : Bool) → ltb (v .fed) limit ≡ t → (e : Said) → (v .fed + 1 ≤ limit → v .fed + 1 + x .taken ≤ limit)
         → v .fed
         + cond t (orStop e (oneMore x) (record { after = stepped v b; answer = e; taken = 1 }))
