@@ -1,0 +1,3 @@
+pub mod RowLaws
+pub mod RoundTrips
+pub mod Blank
