@@ -11,9 +11,6 @@ use Rattle.octets.specs.Placing.{placed}
 use Rattle.layouts.proofs.RowLaws.{Left, left-all, left-width, left-next, left-none}
 use Rattle.layouts.proofs.pack.Statement.{statement}
 use Rattle.layouts.proofs.pack.Tie as tie
-use Rattle.layouts.proofs.pack.Reads as reads
-use Rattle.layouts.proofs.pack.Lts as lts
-use Rattle.octets.proofs.put_number.Reads as put-number-reads
 
 abbrev Inv-loop : tie.InvT-loop
 Inv-loop words widths out₀ at₀ i₀ out at i = (i ≤ length widths) × Left widths words out₀ out at i
@@ -33,39 +30,30 @@ loop-holds c =
     let g = c .before .before .before in
     (omega arith, left-all (g .args .widths .now) (g .args .words .now) (g .args .out .now) (g .pre .1) (g .pre .2))
 
--- src/lib.rt:31:17
 mul-n : tie.Need-mul-n Inv-loop μ-loop
 mul-n c = omega arith
 
--- src/lib.rt:31:17
 shared-slice-read-n : tie.Need-shared-slice-read-n Inv-loop μ-loop
 shared-slice-read-n c = omega arith
 
--- src/lib.rt:32:40
 mul-put-number : tie.Need-mul-put-number Inv-loop μ-loop
 mul-put-number c = omega arith
 
--- src/lib.rt:32:40
 shared-slice-read-put-number : tie.Need-shared-slice-read-put-number Inv-loop μ-loop
 shared-slice-read-put-number c = omega arith
 
--- src/lib.rt:32:9
 put-number-requires : tie.Need-put-number-requires Inv-loop μ-loop
 put-number-requires c κs = search needs
 
--- src/lib.rt:33:9
 add-at : tie.Need-add-at Inv-loop μ-loop
 add-at c = omega (arith, width (c .before .before .before .before .before .before) .1)
 
--- src/lib.rt:34:9
 add-i : tie.Need-add-i Inv-loop μ-loop
 add-i c = omega arith
 
--- src/lib.rt:30:5
 loop-less : tie.Need-loop-less Inv-loop μ-loop
 loop-less c = omega arith
 
--- src/lib.rt:30:5
 loop-again : tie.Need-loop-again Inv-loop μ-loop
 loop-again c =
     let p = c .before .before in
@@ -78,11 +66,9 @@ loop-again c =
     let e : p .put-number .last .0 ≡ placed (l .loop .out) (l .loop .at) (bytesOf n x) = rw w at (p .put-number .ensures .1) in
     (omega arith, rw e (left-next _ _ _ _ _ _ (l .loop .inv .1) (t .loop-test .taken) (g .pre .0)))
 
--- src/lib.rt:24:1
 same-length : tie.Need-same-length Inv-loop μ-loop
 same-length c = c .before .loop .inv .1 .same
 
--- src/lib.rt:24:1
 returns : tie.Need-returns Inv-loop μ-loop
 returns c =
     let l = c .before in
