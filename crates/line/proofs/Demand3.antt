@@ -185,3 +185,12 @@ demand3 m {h} {r} t =
 
     kept : (k : Kept) → r .latest k ≡ stored k h
     kept k = ap (λ x. x .latest k) (s .mirrors) ∙ stands M k h (s .within) (s .calls)
+
+-- from a fresh reader the first frame is given too
+pub from-fresh : (m : ℕ) {h : History} {r : Rec} → Trace m h r → (x : Message) (rest : List ℕ) → taken h ≡ line (modeOf m) x ++ rest
+    → Every (Delivers (modeOf m) x 0) h
+from-fresh m {h} {r} t x rest e =
+    every (modeOf m) x 0 (line (modeOf m) x ++ rest) (read (modeOf m) x [] rest refl) h [] (sym (append-nil (taken h) ∙ e)) (s .within) (s .calls)
+  where
+    s : So-far m h r
+    s = so-far m t
