@@ -47,7 +47,10 @@ put-requires-3 c κs = search needs
 
 sub-g : tie.Need-sub-g
 sub-g c =
-    subst (λ (y : Act). Busy y (c .before .before .before .before .before .before .before .args .t .now)) (c .before .before .before .act2 .given .1) (c .before .before .before .before .before .before .before .pre .1 .1)
+    let e = c .before .before .before .before .before .before .before in
+    let h : 2 ≤ e .args .t .now .pending
+    = subst (λ (y : Act). Busy y (e .args .t .now)) (c .before .before .before .act2 .given .1) (e .pre .1 .1) in
+    omega (arith, h)
 
 add-g-2 : tie.Need-add-g-2
 add-g-2 c = search needs
