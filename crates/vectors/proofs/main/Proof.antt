@@ -1,0 +1,58 @@
+-- `vectors::main`: each turn goes on.
+use Prim.Native.Nat.{_-_, _≤_}
+use borrow.Author.Needs.{needs}
+use Rattle.vectors.proofs.main.Statement.{statement}
+use Rattle.vectors.proofs.main.Tie as tie
+
+abbrev Inv-loop : tie.InvT-loop
+Inv-loop i₀ i = (i ≤ 256)
+
+abbrev μ-loop : tie.MeasureT-loop
+μ-loop i₀ i = 256 - i
+
+slice-aggregate-after-slice : tie.Need-slice-aggregate-after-slice Inv-loop μ-loop
+slice-aggregate-after-slice c = search needs
+
+after-slice-requires : tie.Need-after-slice-requires Inv-loop μ-loop
+after-slice-requires c κs = search needs
+
+show-requires : tie.Need-show-requires Inv-loop μ-loop
+show-requires c κs = search needs
+
+loop-holds : tie.Need-loop-holds Inv-loop μ-loop
+loop-holds c = search needs
+
+cast-entry : tie.Need-cast-entry Inv-loop μ-loop
+cast-entry c = search needs
+
+entry-requires : tie.Need-entry-requires Inv-loop μ-loop
+entry-requires c κs = search needs
+
+add-i : tie.Need-add-i Inv-loop μ-loop
+add-i c = search needs
+
+loop-less : tie.Need-loop-less Inv-loop μ-loop
+loop-less c = search needs
+
+loop-again : tie.Need-loop-again Inv-loop μ-loop
+loop-again c = search needs
+
+returns : tie.Need-returns Inv-loop μ-loop
+returns c = search needs
+
+pub main-spec : {M : Type 1} → statement M
+main-spec =
+    tie.close
+    (tie.spec
+    Inv-loop
+    μ-loop
+    slice-aggregate-after-slice
+    after-slice-requires
+    show-requires
+    loop-holds
+    cast-entry
+    entry-requires
+    add-i
+    loop-less
+    loop-again
+    returns)
