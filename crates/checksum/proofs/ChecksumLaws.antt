@@ -17,11 +17,11 @@ after-append r [] t = refl
 after-append r (b ∷ s) t = after-append (afterByte r b) s t
 
 -- a register of 16 bits stays one
-shifted-lt : (r : ℕ) → r < 65536 → shifted r < 65536
+pub shifted-lt : (r : ℕ) → r < 65536 → shifted r < 65536
 unfolding shifted
 shifted-lt r h = xor-lt 16 (r * 2 % 65536) (r / 32768 * divisor) (omega arith) (omega arith)
 
-shifted-by-lt : (n r : ℕ) → r < 65536 → shiftedBy n r < 65536
+pub shifted-by-lt : (n r : ℕ) → r < 65536 → shiftedBy n r < 65536
 unfolding shiftedBy
 shifted-by-lt zero r h = h
 shifted-by-lt (suc n) r h = shifted-by-lt n (shifted r) (shifted-lt r h)

@@ -1,2 +1,4 @@
 pub mod Vectors
 pub mod ChecksumLaws
+pub mod Linear
+pub mod Fours

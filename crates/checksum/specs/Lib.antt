@@ -1,1 +1,2 @@
 pub mod Checksum
+pub mod Plain

@@ -1,6 +1,14 @@
-// The checksum of a frame, bit by bit. A register of 16 bits takes each byte at the top, the highest bit first.
+// The checksum of a frame. A register of 16 bits takes each byte at the top, the highest bit first; data goes in four bytes at a time
+// where none of them is 10h.
 ghost use mathlib.Core.Path.{_≡_};
-ghost use Rattle.checksum.specs.Checksum.{shifted, afterByte, afterBytes, checksum};
+ghost use mathlib.Core.Bool.{true};
+ghost use Prim.Native.Nat.{ℕ, _+_, _*_, _≤_, _<_};
+ghost use lib.Bits.{bitXor};
+ghost use mathlib.Core.List.{List, _∷_};
+ghost use lib.ListN.{length, drop};
+ghost use Rattle.octets.specs.Stuffing.{stuffed};
+ghost use Rattle.checksum.specs.Checksum.{shifted, shiftedBy, afterByte, afterBytes, checksum};
+ghost use Rattle.checksum.specs.Plain.{Plain};
 
 // The register one place up: where a 1 leaves at the top, the divisor is taken away.
 pub fn shift(reg: u16) -> u16
@@ -39,6 +47,69 @@ pub fn after_slice(reg: u16, s: &[u8]) -> u16
     r
 }
 
+// Two bytes as one number, as they enter the register.
+fn pair(b: u8, c: u8) -> u16
+    ensures { λ r. ⌜ (r ≡ b * 256 + c) × (b < 256) × (c < 256) ⌝ }
+{
+    b as u16 * 256 + c as u16
+}
+
+// The register after four more bytes, two at a time. Of the division only the quotient's low places are worked out: each is a
+// sum of places of what enters, so all are had at once; the divisor times them is what is left in the register.
+fn after_four(reg: u16, first: u16, second: u16) -> u16
+    ensures { λ r. ⌜ (r ≡ shiftedBy 16 (bitXor (shiftedBy 16 (bitXor reg first)) second)) × (reg < 65536) ⌝ }
+{
+    let x = reg ^ first;
+    let y = second;
+    let far = (((x << 12) ^ (x << 8)) ^ ((x << 5) ^ (x << 4)))
+        ^ (((x >> 3) ^ (x >> 4)) ^ (((x >> 6) ^ (x >> 10)) ^ ((x >> 11) ^ (x >> 12))));
+    let near = (y ^ (y >> 4)) ^ ((y >> 8) ^ ((y >> 11) ^ (y >> 12)));
+    let q = far ^ near;
+    q ^ ((q << 5) ^ (q << 12))
+}
+
+// The register after one byte of data as the line has it: a 10h counts twice.
+fn after_stuffed(reg: u16, b: u8) -> u16
+    ensures { λ r. ⌜ ((t : List ℕ) → afterBytes r (stuffed t) ≡ afterBytes reg (stuffed (b ∷ t))) ⌝ }
+{
+    let once = after_byte(reg, b);
+    if b == 0x10 {
+        return after_byte(once, b);
+    }
+    once
+}
+
+// Whether four bytes from a place on are there, and none of them is 10h.
+fn plain(s: &[u8], at: usize) -> bool
+    requires { ⌜ at ≤ length (now s) ⌝ }
+    ensures { λ r. ⌜ (r ≡ true → Plain (now (s .entry)) at) ⌝ }
+{
+    if s.len() - at < 4 {
+        return false;
+    }
+    (s[at] != 0x10) & (s[at + 1] != 0x10) & (s[at + 2] != 0x10) & (s[at + 3] != 0x10)
+}
+
+// A register, and how far it has come.
+struct Sum {
+    reg: u16,
+    at: usize,
+}
+
+// Four bytes where that can be, else one.
+fn onward(reg: u16, s: &[u8], at: usize) -> Sum
+    requires { ⌜ at < length (now s) ⌝ }
+    ensures { λ r. ⌜ (at < r .at) × (r .at ≤ length (now (s .entry)))
+        × (afterBytes (r .reg) (stuffed (drop (r .at) (now (s .entry)))) ≡ afterBytes reg (stuffed (drop at (now (s .entry))))) ⌝ }
+{
+    if plain(s, at) {
+        let r = after_four(reg, pair(s[at], s[at + 1]), pair(s[at + 2], s[at + 3]));
+        return Sum { reg: r, at: at + 4 };
+    }
+    let r = after_stuffed(reg, s[at]);
+    Sum { reg: r, at: at + 1 }
+}
+
 // The checksum of a message. It is over the stuffed data, and the data here is not stuffed: so a 10h counts twice.
 pub fn message(id: u8, body: &[u8]) -> u16
     ensures { λ r. ⌜ r ≡ checksum id (now (body .entry)) ⌝ }
@@ -46,12 +117,9 @@ pub fn message(id: u8, body: &[u8]) -> u16
     let mut r = after_byte(0, id);
     let mut i: usize = 0;
     while i < body.len() {
-        let b = body[i];
-        r = after_byte(r, b);
-        if b == 0x10 {
-            r = after_byte(r, b);
-        }
-        i += 1;
+        let t = onward(r, body, i);
+        r = t.reg;
+        i = t.at;
     }
     r
 }

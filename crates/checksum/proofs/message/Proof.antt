@@ -1,14 +1,12 @@
 -- `checksum::message` meets its contract. The loop's invariant: the data still to go, stuffed, takes the register to the result.
-use mathlib.Core.Path.{_≡_}
-use mathlib.Core.Logic.{⊎-elim}
-use Prim.Native.Nat.{suc, _-_, _≤_, _<_}
-use native.Mathlib.Numerals.{add-one}
+use mathlib.Core.Path.{_≡_, _∙_}
+use Prim.Native.Nat.{_-_, _≤_}
 use native.Mathlib.Omega.{arith}
 use borrow.Author.Needs.{needs}
-use lib.ListN.{length, drop, getD}
-use lib.Seq.{drop-cons, drop-length}
+use lib.ListN.{length, drop}
+use lib.Seq.{drop-length}
 use Rattle.octets.specs.Stuffing.{stuffed}
-use Rattle.octets.proofs.StuffingLaws.{stuffed-nil, stuffed-dle, stuffed-other}
+use Rattle.octets.proofs.StuffingLaws.{stuffed-nil}
 use Rattle.checksum.specs.Checksum.{afterBytes, checksum}
 use Rattle.checksum.proofs.message.Statement.{statement}
 use Rattle.checksum.proofs.message.Tie as tie
@@ -26,36 +24,16 @@ loop-holds : tie.Need-loop-holds Inv-loop μ-loop
 unfolding checksum afterBytes
 loop-holds c = (omega arith, rw (c .after-byte .ensures))
 
-shared-slice-read-b : tie.Need-shared-slice-read-b Inv-loop μ-loop
-shared-slice-read-b c = omega arith
-
-after-byte-requires-2 : tie.Need-after-byte-requires-2 Inv-loop μ-loop
-after-byte-requires-2 c κs = search needs
-
-after-byte-requires-3 : tie.Need-after-byte-requires-3 Inv-loop μ-loop
-after-byte-requires-3 c κs = search needs
-
-add-i : tie.Need-add-i Inv-loop μ-loop
-add-i c = omega arith
+onward-requires : tie.Need-onward-requires Inv-loop μ-loop
+onward-requires c κs = search needs
 
 loop-less : tie.Need-loop-less Inv-loop μ-loop
-loop-less c = omega arith
+loop-less c = omega (arith, c .onward .ensures)
 
 loop-again : tie.Need-loop-again Inv-loop μ-loop
-unfolding afterBytes
 loop-again c =
-    let l = c .before .before .before .before in
-    let s = l .before .before .before .args .body .now in
-    let i = l .loop .i in
-    let b = getD s i 0 in
-    let h : i < length s = omega arith in
-    let inv = rw (drop-cons s i 0 h) at (l .loop .inv .1) in
-    let one = c .before .after-byte2 .ensures in (
-      omega arith,
-      rw add-one (⊎-elim
-          (λ w. rw (w .2, w .1 .ensures, one) (rw (stuffed-dle b (drop (suc i) s) (w .0 .taken)) at inv))
-          (λ w. rw (w .1, one) (rw (stuffed-other b (drop (suc i) s) (w .0 .left)) at inv)) (c .if1 .came)),
-    )
+    let t = c .onward .ensures in
+    (t .1, t .2 ∙ c .before .before .loop .inv .1)
 
 returns : tie.Need-returns Inv-loop μ-loop
 unfolding afterBytes
@@ -66,17 +44,4 @@ returns c =
     rw (n, drop-length, stuffed-nil) at (l .loop .inv .1)
 
 pub message-spec : {M : Type 1} → statement M
-message-spec =
-    tie.close
-    (tie.spec
-    Inv-loop
-    μ-loop
-    after-byte-requires
-    loop-holds
-    shared-slice-read-b
-    after-byte-requires-2
-    after-byte-requires-3
-    add-i
-    loop-less
-    loop-again
-    returns)
+message-spec = tie.close (tie.spec Inv-loop μ-loop after-byte-requires loop-holds onward-requires loop-less loop-again returns)
