@@ -1,42 +1,17 @@
 -- Four bytes of data that are not doubled, taken at once.
-use mathlib.Core.Bool.{Bool, true, false, not, _&&_, and-eq-true-iff}
-use mathlib.Core.List.{List, _∷_}
-use mathlib.Core.Path.{_≡_, sym, ap, ap₂, _∙_, subst}
+use mathlib.Core.List.{List}
+use mathlib.Core.Path.{_≡_, sym, ap, _∙_}
 use Prim.Native.Nat.{ℕ, suc, _+_, _*_, _≤_, _<_}
 use native.Mathlib.Omega.{arith}
-use borrow.Author.Tests.{not-true, eqb-false}
 use lib.Bits.{bitXor}
-use lib.Dec.{T, eqb}
 use lib.ListN.{length, drop, getD}
 use lib.Seq.{drop-cons}
 use Rattle.octets.specs.Stuffing.{DLE, stuffed}
 use Rattle.octets.proofs.StuffingLaws.{stuffed-other}
+use Rattle.octets.proofs.PlainLaws.{Plain}
 use Rattle.checksum.specs.Checksum.{shiftedBy, afterByte, afterBytes}
-use Rattle.checksum.specs.Plain.{Plain}
 use Rattle.checksum.proofs.ChecksumLaws.{after-byte-lt}
 use Rattle.checksum.proofs.Linear.{after-pair}
-
-pub never : {A : Type 0} → false ≡ true → A
-never e = absurd (subst T (sym e) tt)
-
-other : (b : ℕ) → not (eqb b DLE) ≡ true → b ≡ DLE → ⊥
-other b e = eqb-false b DLE (not-true (eqb b DLE) e)
-
--- the test of four bytes
-pub plain-of : (s : List ℕ) (i : ℕ) → i + 4 ≤ length s
-    → (((not (eqb (getD s i 0) DLE) && not (eqb (getD s (i + 1) 0) DLE)) && not (eqb (getD s (i + 2) 0) DLE)) && not (eqb (getD s (i + 3) 0) DLE)) ≡ true
-    → Plain s i
-plain-of s i l e =
-    let p = and-eq-true-iff _ _ .0 e in
-    let q = and-eq-true-iff _ _ .0 (p .0) in
-    let r = and-eq-true-iff _ _ .0 (q .0) in
-    record {
-      there = l;
-      first = other (getD s i 0) (r .0);
-      second = other (getD s (i + 1) 0) (r .1);
-      third = other (getD s (i + 2) 0) (q .1);
-      fourth = other (getD s (i + 3) 0) (p .1);
-    }
 
 -- one byte that is not doubled
 one : (r : ℕ) (s : List ℕ) (i : ℕ) → i < length s → (getD s i 0 ≡ DLE → ⊥)

@@ -1,14 +1,12 @@
 // The checksum of a frame. A register of 16 bits takes each byte at the top, the highest bit first; data goes in four bytes at a time
 // where none of them is 10h.
 ghost use mathlib.Core.Path.{_≡_};
-ghost use mathlib.Core.Bool.{true};
 ghost use Prim.Native.Nat.{ℕ, _+_, _*_, _≤_, _<_};
 ghost use lib.Bits.{bitXor};
 ghost use mathlib.Core.List.{List, _∷_};
 ghost use lib.ListN.{length, drop};
 ghost use Rattle.octets.specs.Stuffing.{stuffed};
 ghost use Rattle.checksum.specs.Checksum.{shifted, shiftedBy, afterByte, afterBytes, checksum};
-ghost use Rattle.checksum.specs.Plain.{Plain};
 
 // The register one place up: where a 1 leaves at the top, the divisor is taken away.
 pub fn shift(reg: u16) -> u16
@@ -79,17 +77,6 @@ fn after_stuffed(reg: u16, b: u8) -> u16
     once
 }
 
-// Whether four bytes from a place on are there, and none of them is 10h.
-fn plain(s: &[u8], at: usize) -> bool
-    requires { ⌜ at ≤ length (now s) ⌝ }
-    ensures { λ r. ⌜ (r ≡ true → Plain (now (s .entry)) at) ⌝ }
-{
-    if s.len() - at < 4 {
-        return false;
-    }
-    (s[at] != 0x10) & (s[at + 1] != 0x10) & (s[at + 2] != 0x10) & (s[at + 3] != 0x10)
-}
-
 // A register, and how far it has come.
 struct Sum {
     reg: u16,
@@ -102,7 +89,7 @@ fn onward(reg: u16, s: &[u8], at: usize) -> Sum
     ensures { λ r. ⌜ (at < r .at) × (r .at ≤ length (now (s .entry)))
         × (afterBytes (r .reg) (stuffed (drop (r .at) (now (s .entry)))) ≡ afterBytes reg (stuffed (drop at (now (s .entry))))) ⌝ }
 {
-    if plain(s, at) {
+    if octets::four_plain(s, at) {
         let r = after_four(reg, pair(s[at], s[at + 1]), pair(s[at + 2], s[at + 3]));
         return Sum { reg: r, at: at + 4 };
     }

@@ -3,3 +3,4 @@ pub mod NumberLaws
 pub mod SignedLaws
 pub mod StuffingLaws
 pub mod PlacingLaws
+pub mod PlainLaws

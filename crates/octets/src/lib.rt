@@ -6,7 +6,7 @@ ghost use lib.Dec.{leb};
 ghost use lib.ListN.{length, getD};
 ghost use Rattle.octets.specs.Number.{numberAt, bytesOf};
 ghost use Rattle.octets.specs.Signed.{int8, int16, unsigned};
-ghost use Rattle.octets.specs.Stuffing.{dles};
+ghost use Rattle.octets.specs.Stuffing.{dles, fourPlain};
 ghost use Rattle.octets.specs.Placing.{fits, placed};
 
 // Whether n places from `at` on are within `len`; by a difference, since the sum could wrap.
@@ -169,4 +169,17 @@ pub fn count_dle(s: &[u8]) -> usize
         i += 1;
     }
     n
+}
+
+// Whether four bytes from `at` on are there, and none of them is 10h: such bytes go on as they are, four at a time.
+pub fn four_plain(s: &[u8], at: usize) -> bool
+    ensures { λ r. ⌜ r ≡ fourPlain (now (s .entry)) at ⌝ }
+{
+    if s.len() < 4 {
+        return false;
+    }
+    if s.len() - 4 < at {
+        return false;
+    }
+    (s[at] != 0x10) & (s[at + 1] != 0x10) & (s[at + 2] != 0x10) & (s[at + 3] != 0x10)
 }

@@ -3,15 +3,17 @@ use mathlib.Core.Bool.{cond}
 use mathlib.Core.List.{List, [], _∷_, _++_, append-assoc, append-nil}
 use mathlib.Core.Path.{_≡_, refl, sym, ap, _∙_, subst}
 use Prim.Native.Nat.{ℕ, zero, suc, _+_, _-_, _≤_, _<_}
-use native.Mathlib.Nat.{add-zero}
+use native.Mathlib.Nat.{add-zero, le-refl}
 use native.Mathlib.Numerals.{add-one}
 use native.Mathlib.Omega.{arith}
 use borrow.Author.Count.{below-more}
-use borrow.Author.Tests.{lt-ltb}
-use lib.ListN.{length, take, drop, getD, set, length-append, length-drop}
-use lib.Seq.{take-suc, take-suc-set, getD-drop, drop-cons}
+use borrow.Author.Tests.{lt-ltb, ltb-true, ltb-false}
+use lib.Dec.{ltb}
+use lib.ListN.{length, take, drop, getD, set, length-append, length-drop, length-set}
+use lib.Seq.{take-suc, take-suc-set, take-take, take-add, drop-drop, getD-drop, getD-take, drop-cons}
 use Rattle.octets.specs.Stuffing.{DLE, stuffed}
 use Rattle.octets.proofs.StuffingLaws.{stuffed-nil, stuffed-other, stuffed-append}
+use Rattle.octets.proofs.PlainLaws.{Plain}
 use Rattle.line.specs.Frame.{Mode, Class, modeOf, classOf}
 use Rattle.line.specs.Frame.Class.{dle, etx, sum, other}
 use Rattle.line.specs.Table.{State, Step, capacity, pending, go, skip, join, refuse, next}
@@ -22,10 +24,10 @@ use Rattle.line.specs.Record.Place.{at as on}
 use Rattle.line.proofs.Classes.{dle-is}
 use Rattle.line.proofs.Reading.{is}
 use Rattle.reader.specs.View.{placeOf}
-use Rattle.reader.specs.Moving.{NoDle, Base, Out, one, see, placeNow, ahead, onward, Pends}
+use Rattle.reader.specs.Moving.{NoDle, Copied, Base, Out, one, see, placeNow, ahead, onward, Pends}
 use Rattle.reader.specs.declared.Moving.{Moving}
 use Rattle.reader.proofs.Stepping.{byStep, one-by}
-use Rattle.reader.proofs.Feeding.{one-step, Silent}
+use Rattle.reader.proofs.Feeding.{tested, one-step, Silent}
 
 pub none-yet : (s : List ℕ) (from : ℕ) → NoDle s from from
 none-yet s from j h l = absurd (let z : ⊥ = omega arith in z)
@@ -34,13 +36,13 @@ pub none-more : (s : List ℕ) (from at : ℕ) → NoDle s from at → (getD s a
 none-more s from at p q j h l = below-more (λ (i : ℕ). from ≤ i → getD s i 0 ≡ DLE → ⊥) at (λ i x y. p i y x) (λ y. q) j l h
 
 -- nothing is stored yet
-pub fill-none : (d s : List ℕ) (len from : ℕ) → take len d ≡ take len d ++ take (from - from) (drop from s)
-fill-none d s len from =
+pub copied-none : (d s : List ℕ) (len from : ℕ) → length d ≡ 1024 → Copied d d len s from from
+copied-none d s len from w =
     let e : from - from ≡ 0 = omega arith in
-    rw e (sym (append-nil (take len d)))
+    let n : len + (from - from) ≡ len = omega arith in
+    record { least = le-refl from; none = none-yet s from; whole = w; same = rw (n, e) (sym (append-nil (take len d))) }
 
--- one byte more is stored
-pub fill-more : (d₀ d s : List ℕ) (len from at to : ℕ) → to < length d → from ≤ at → at < length s
+fill-more : (d₀ d s : List ℕ) (len from at to : ℕ) → to < length d → from ≤ at → at < length s
     → take to d ≡ take len d₀ ++ take (at - from) (drop from s)
     → take (to + 1) (set d to (getD s at 0)) ≡ take len d₀ ++ take (at + 1 - from) (drop from s)
 fill-more d₀ d s len from at to h f l e =
@@ -54,6 +56,76 @@ fill-more d₀ d s len from at to h f l e =
     ∙ append-assoc (take len d₀) (take (at - from) (drop from s)) (getD s at 0 ∷ [])
     ∙ ap (λ (x : List ℕ). take len d₀ ++ x)
     (sym (take-suc (drop from s) (at - from) 0 m ∙ ap (λ (x : ℕ). take (at - from) (drop from s) ++ (x ∷ [])) b)))
+
+-- one more byte, and four
+pub copied-more : (a a′ s : List ℕ) (len from at to : ℕ) → to ≡ len + (at - from) → Copied a a′ len s from at → at < length s → to < 1024
+    → (getD s at 0 ≡ DLE → ⊥) → Copied a (set a′ to (getD s at 0)) len s from (at + 1)
+copied-more a a′ s len from at to e c l r n =
+    let w = c .whole in
+    let f : from ≤ at = c .least in
+    let q : take to a′ ≡ take len a ++ take (at - from) (drop from s) = ap (λ (x : ℕ). take x a′) e ∙ c .same in
+    let t : len + (at + 1 - from) ≡ to + 1 = omega arith in
+    record {
+      least = omega arith;
+      none = none-more s from at (c .none) n;
+      whole = length-set a′ to (getD s at 0) ∙ w;
+      same = rw t (fill-more a a′ s len from at to (omega arith) f l q);
+    }
+
+pub copied-four : (a a′ s : List ℕ) (len from at to : ℕ) → to ≡ len + (at - from) → Copied a a′ len s from at → len + (length s - from) ≤ 1024
+    → Plain s at
+    → Copied a
+    (set (set (set (set a′ to (getD s at 0)) (to + 1) (getD s (at + 1) 0)) (to + 2) (getD s (at + 2) 0)) (to + 3) (getD s (at + 3) 0)) len s
+    from (at + 4)
+copied-four a a′ s len from at to e c l p =
+    let f : from ≤ at = c .least in
+    let t : at + 4 ≤ length s = p .there in
+    let n2 : at + 1 + 1 ≡ at + 2 = omega arith in
+    let n3 : at + 2 + 1 ≡ at + 3 = omega arith in
+    let n4 : at + 3 + 1 ≡ at + 4 = omega arith in
+    let c1 = copied-more a a′ s len from at to e c (omega arith) (omega arith) (p .first) in
+    let c2 = rw n2 at (copied-more a _ s len from (at + 1) (to + 1) (omega arith) c1 (omega arith) (omega arith) (p .second)) in
+    let c3 = rw n3 at (copied-more a _ s len from (at + 2) (to + 2) (omega arith) c2 (omega arith) (omega arith) (p .third)) in
+    rw n4 at (copied-more a _ s len from (at + 3) (to + 3) (omega arith) c3 (omega arith) (omega arith) (p .fourth))
+
+-- bytes stored, and then more
+pub copied-then : (a b c s : List ℕ) (len from at r : ℕ) → Copied a b len s from at → Copied b c (len + (at - from)) s at r → Copied a c len s from r
+copied-then a b c s len from at r p q =
+    let f : from ≤ at = p .least in
+    let g : at ≤ r = q .least in
+    let n : len + (r - from) ≡ len + (at - from) + (r - at) = omega arith in
+    let m : r - from ≡ at - from + (r - at) = omega arith in
+    let i : from + (at - from) ≡ at = omega arith in
+    record {
+      least = omega arith;
+      none = λ j l h. tested (ltb j at) (λ t. p .none j l (ltb-true j at t)) (λ t. q .none j (ltb-false j at t) h);
+      whole = q .whole;
+      same =
+          rw (n, m)
+          (q .same
+          ∙ ap (λ x. x ++ take (r - at) (drop at s)) (p .same)
+          ∙ append-assoc (take len a) (take (at - from) (drop from s)) (take (r - at) (drop at s))
+          ∙ ap (λ x. take len a ++ x)
+          (sym (take-add (at - from) (r - at) (drop from s)
+          ∙ ap (λ x. take (at - from) (drop from s) ++ take (r - at) x) (drop-drop (at - from) from s ∙ ap (λ (k : ℕ). drop k s) i))));
+    }
+
+-- what is read of a slice's beginning is read of the slice
+window : (k from most : ℕ) (s : List ℕ) → from + k ≤ most → take k (drop from (take most s)) ≡ take k (drop from s)
+window k zero most s h = take-take k most s (omega arith)
+window k (suc f) zero s h = absurd (omega arith)
+window k (suc f) (suc m) [] h = refl
+window k (suc f) (suc m) (x ∷ s) h = window k f m s (omega arith)
+
+pub copied-beyond : (a a′ s : List ℕ) (len from r most : ℕ) → r ≤ most → Copied a a′ len (take most s) from r → Copied a a′ len s from r
+copied-beyond a a′ s len from r most h c =
+    let f : from ≤ r = c .least in
+    record {
+      least = f;
+      none = λ j l n e. c .none j l n (getD-take most s j 0 (omega arith) ∙ e);
+      whole = c .whole;
+      same = c .same ∙ ap (λ x. take len a ++ x) (window (r - from) from most s (omega arith));
+    }
 
 -- a byte that is no DLE, in W and in F
 W-other : (m : Mode) (b : ℕ) → (b ≡ DLE → ⊥) → next m W b ≡ skip 1

@@ -7,7 +7,7 @@ use Prim.Native.Nat.{ℕ, suc, zero-le, _+_, _≤_, _<_}
 use native.Mathlib.Omega.{arith}
 use borrow.Author.Tests.{eqb-true, eqb-false, eq-eqb, ne-eqb}
 use lib.Dec.{eqb}
-use lib.ListN.{length}
+use lib.ListN.{length, take}
 use Rattle.octets.specs.Stuffing.{stuffed, dles}
 use Rattle.octets.proofs.StuffingLaws.{length-stuffed}
 use Rattle.kinds.specs.Kinds.{content}
@@ -21,12 +21,12 @@ use Rattle.line.specs.Record.Kept.{k4A, k4B}
 use Rattle.line.specs.Record.Place.{at as on, unknown}
 use Rattle.line.proofs.Mirror.{PlaceOk}
 use Rattle.reader.specs.View.{placeOf, dataOf, perhaps, latestOf, view}
-use Rattle.reader.specs.Moving.{Opened, LatestOk}
+use Rattle.reader.specs.Moving.{Opened, LatestOk, Plausible, Held}
 use Rattle.reader.specs.declared.Head.{Head}
 use Rattle.reader.specs.declared.Latest.{Latest}
 use Rattle.reader.specs.declared.Reader.{Reader}
 use Rattle.reader.proofs.Feeding.{tested}
-use Rattle.reader.proofs.Finishing.{data-length}
+use Rattle.reader.proofs.Finishing.{data-take, data-length}
 
 -- a number from 0 to 7, or one above
 up : (k n : ℕ) → k ≤ n → eqb n k ≡ false → suc k ≤ n
@@ -201,3 +201,42 @@ module _ (r : Reader) where
         short = omega (arith, a .short, data-length (r .head .len) (r .bytes));
         usable = a .usable;
       }
+
+  -- the record is possible by what the code asks, and only so
+  pub possible-low : Plausible (r .head) (r .latest) → r .head .place < 2 → length (r .latest .d4a) ≡ 33 → length (r .latest .d4b) ≡ 42
+      → Possible (view r)
+  possible-low p l a b =
+      to-possible
+      (low-clauses (modeOf (r .head .mode)) (r .head .place) (r .head .id) (dataOf (r .head .len) (r .bytes)) (r .head .c1) (r .head .c2) (r .head .pending) l (p .low l))
+      (p .fed) (p .latest) a b
+
+  pub possible-open : Plausible (r .head) (r .latest) → 2 ≤ r .head .place → Held (r .head) (r .bytes) → length (r .bytes) ≡ 1024
+      → length (r .latest .d4a) ≡ 33 → length (r .latest .d4b) ≡ 42 → Possible (view r)
+  possible-open p l h w a b =
+      let o = p .opened l in
+      let t = data-take (r .head .len) (r .bytes) (omega (arith, o .short)) in
+      to-possible
+      (open-clauses (modeOf (r .head .mode)) (r .head .place) (r .head .id) (dataOf (r .head .len) (r .bytes)) (r .head .c1) (r .head .c2) (r .head .pending) l
+      (asks-open (take (r .head .len) (r .bytes)) t o h))
+      (p .fed) (p .latest) a b
+
+  asked : Possible (view r) → 2 ≤ r .head .place
+      → Asks (modeOf (r .head .mode)) (r .head .place) (r .head .id) (dataOf (r .head .len) (r .bytes)) (r .head .pending)
+  asked p l =
+      clauses-open (modeOf (r .head .mode)) (r .head .place) (r .head .id) (dataOf (r .head .len) (r .bytes)) (r .head .c1) (r .head .c2) (r .head .pending) l
+      (of-possible p)
+
+  pub plausible-of : Possible (view r) → Plausible (r .head) (r .latest)
+  plausible-of p =
+      record {
+        fed = p .fed;
+        latest = record { ok43 = p .latest43; ok46 = p .latest46; okEB = p .latestEB };
+        low = λ l. clauses-low (modeOf (r .head .mode)) (r .head .place) (r .head .id) (dataOf (r .head .len) (r .bytes)) (r .head .c1) (r .head .c2) (r .head .pending) l (of-possible p);
+        opened = λ l. opened-asks (asked p l);
+      }
+
+  pub held-of : Possible (view r) → 2 ≤ r .head .place → length (r .bytes) ≡ 1024 → Held (r .head) (r .bytes)
+  held-of p l w =
+      let a = asked p l in
+      let t = data-take (r .head .len) (r .bytes) (omega (arith, opened-asks a .short)) in
+      a .pending ∙ (λ i. r .head .place + (data-length (r .head .len) (r .bytes) i + dles (t i)))

@@ -6,7 +6,7 @@ use mathlib.Core.Path.{_≡_}
 use Prim.Native.Nat.{ℕ, _+_, _-_, _≤_, _<_}
 use lib.Dec.{eqb, ltb}
 use lib.ListN.{length, take, drop, getD}
-use Rattle.octets.specs.Stuffing.{DLE}
+use Rattle.octets.specs.Stuffing.{DLE, dles}
 use Rattle.line.specs.Frame.{modeOf, classOf, judge, Acceptable}
 use Rattle.line.specs.Frame.Class.{other}
 use Rattle.line.specs.Table.{Event as Said, State, pending, verdict}
@@ -42,7 +42,14 @@ pub record Skips (s : List ℕ) (from n r : ℕ) : Type 0 where
   pub none : NoDle s from r
   pub stop : r < n → getD s r 0 ≡ DLE
 
--- the bytes from a place up to r are stored behind the first len, until a DLE, n or 1,024 held
+-- the bytes from a place up to r, none of them DLE, are stored behind the first len
+pub record Copied (a a′ : List ℕ) (len : ℕ) (s : List ℕ) (from r : ℕ) : Type 0 where
+  pub least : from ≤ r
+  pub none : NoDle s from r
+  pub whole : length a′ ≡ 1024
+  pub same : take (len + (r - from)) a′ ≡ take len a ++ take (r - from) (drop from s)
+
+-- the same, until a DLE, n or 1,024 held
 pub record Fills (a a′ : List ℕ) (len : ℕ) (s : List ℕ) (from n r : ℕ) : Type 0 where
   pub least : from ≤ r
   pub most : r ≤ n
@@ -290,6 +297,17 @@ pub record LatestOk (l : Latest) : Type 0 where
   pub ok43 : Fit 0x43 (latestOf l k43)
   pub ok46 : Fit 0x46 (latestOf l k46)
   pub okEB : Fit 0xEB (latestOf l kEB)
+
+-- pending is exactly the bytes of an open frame
+abbrev pub Held : Head → List ℕ → Type 0
+Held h a = h .pending ≡ h .place + (h .len + dles (take (h .len) a))
+
+-- the other clauses
+pub record Plausible (h : Head) (l : Latest) : Type 0 where
+  pub fed : h .fed ≡ h .accepted + h .refused + h .outside + h .pending
+  pub latest : LatestOk l
+  pub low : h .place < 2 → h .pending ≡ h .place
+  pub opened : 2 ≤ h .place → Opened h
 
 -- the latest messages, where a message was given, and where none was
 abbrev pub storedBy : Bool → ℕ → List ℕ → (Kept → Option (List ℕ)) → Kept → Option (List ℕ)

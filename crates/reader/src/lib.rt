@@ -11,7 +11,7 @@ ghost use Rattle.line.specs.Record.{limit, Possible, walk, Kept, Fit};
 ghost use Rattle.line.specs.Record.Kept.{k43, k46, kEB};
 ghost use Rattle.reader.specs.View.{view, latestOf, partsOf, shown};
 ghost use Rattle.reader.specs.Posts.{FreshPost, StepPost, FeedPost, blank as blankOf, Refuses, Reads};
-ghost use Rattle.reader.specs.Moving.{Decides, Usable, Opened, LatestOk, Skips, Fills, Fits, Pends, Sound, Busy, Steps, Goes, Ran, Finishes, went, passed, opened, shut as shutOf, turned, baseOf, startOf, storedBy, headWith, concluded};
+ghost use Rattle.reader.specs.Moving.{Decides, Usable, Opened, LatestOk, Plausible, Held, Skips, Copied, Fills, Fits, Pends, Sound, Busy, Steps, Goes, Ran, Finishes, went, passed, opened, shut as shutOf, turned, baseOf, startOf, storedBy, headWith, concluded};
 
 // The numbers of the record. Mode and place are numbers, so that a wrong one can be refused.
 pub struct Head {
@@ -153,21 +153,36 @@ fn skip(s: &[u8], from: usize, n: usize) -> usize
     at
 }
 
+// Stores bytes four at a time, as long as none of the four is DLE.
+fn fill_fours(d: &mut [u8; 1024], len: usize, s: &[u8], from: usize) -> usize
+    requires { ⌜ (from ≤ length (now s)) × (len + (length (now s) - from) ≤ 1024) × (length (now d) ≡ 1024) ⌝ }
+    ensures { λ r. ⌜ (r ≤ length (now (s .entry))) × Copied (now (d .entry)) (now (d .exit)) len (now (s .entry)) from r ⌝ }
+{
+    let mut at = from;
+    while octets::four_plain(s, at) {
+        let to = len + (at - from);
+        d[to] = s[at];
+        d[to + 1] = s[at + 1];
+        d[to + 2] = s[at + 2];
+        d[to + 3] = s[at + 3];
+        at = at + 4;
+    }
+    at
+}
+
 // Stores bytes until a DLE, n or 1,024 held.
 fn fill(d: &mut [u8; 1024], len: usize, s: &[u8], from: usize, n: usize) -> usize
     requires { ⌜ (len ≤ 1024) × (from ≤ n) × (n ≤ length (now s)) × (length (now d) ≡ 1024) ⌝ }
     ensures { λ r. ⌜ Fills (now (d .entry)) (now (d .exit)) len (now (s .entry)) from n r ⌝ }
 {
     let most = bound(len, from, n);
-    let mut at = from;
-    let mut to = len;
+    let mut at = fill_fours(d, len, &s[..most], from);
     while at < most {
         let b = s[at];
         if b == Reader::DLE {
             return at;
         }
-        d[to] = b;
-        to = to + 1;
+        d[len + (at - from)] = b;
         at = at + 1;
     }
     at
@@ -178,9 +193,15 @@ fn go(m: Moving, p: u8, at: usize) -> Moved
     requires { ⌜ m .pending < limit ⌝ }
     ensures { λ r. ⌜ r ≡ went m p at ⌝ }
 {
-    let mut n = m;
-    n.place = p;
-    n.pending = m.pending + 1;
+    let n = Moving {
+        place: p,
+        id: m.id,
+        c1: m.c1,
+        c2: m.c2,
+        len: m.len,
+        outside: m.outside,
+        pending: m.pending + 1,
+    };
     Moved {
         now: n,
         act: Act::Quiet,
@@ -194,10 +215,15 @@ fn pass_by(m: Moving, at: usize) -> Moved
     requires { ⌜ m .outside + 2 ≤ limit ⌝ }
     ensures { λ r. ⌜ r ≡ passed m at ⌝ }
 {
-    let mut n = m;
-    n.place = 0;
-    n.pending = 0;
-    n.outside = m.outside + 2;
+    let n = Moving {
+        place: 0,
+        id: m.id,
+        c1: m.c1,
+        c2: m.c2,
+        len: m.len,
+        outside: m.outside + 2,
+        pending: 0,
+    };
     Moved {
         now: n,
         act: Act::Quiet,
@@ -211,11 +237,15 @@ fn begin(m: Moving, b: u8, at: usize) -> Moved
     requires { ⌜ m .pending < limit ⌝ }
     ensures { λ r. ⌜ r ≡ opened m b at ⌝ }
 {
-    let mut n = m;
-    n.place = 2;
-    n.id = b;
-    n.len = 0;
-    n.pending = m.pending + 1;
+    let n = Moving {
+        place: 2,
+        id: b,
+        c1: m.c1,
+        c2: m.c2,
+        len: 0,
+        outside: m.outside,
+        pending: m.pending + 1,
+    };
     Moved {
         now: n,
         act: Act::Quiet,
@@ -229,8 +259,15 @@ fn shut(m: Moving, act: Act, b: u8, at: usize) -> Moved
     requires { ⌜ m .pending < limit ⌝ }
     ensures { λ r. ⌜ r ≡ shutOf m act b at ⌝ }
 {
-    let mut n = m;
-    n.pending = m.pending + 1;
+    let n = Moving {
+        place: m.place,
+        id: m.id,
+        c1: m.c1,
+        c2: m.c2,
+        len: m.len,
+        outside: m.outside,
+        pending: m.pending + 1,
+    };
     Moved {
         now: n,
         act: act,
@@ -246,8 +283,15 @@ fn in_w(m: Moving, s: &[u8], at: usize, n: usize) -> Moved
     ensures { λ r. ⌜ ((k : ℕ) (a : List ℕ) → length a ≡ 1024 → Goes k m a a (now (s .entry)) at n r) ⌝ }
 {
     let to = skip(s, at, n);
-    let mut w = m;
-    w.outside = m.outside + (to - at) as u32;
+    let w = Moving {
+        place: m.place,
+        id: m.id,
+        c1: m.c1,
+        c2: m.c2,
+        len: m.len,
+        outside: m.outside + (to - at) as u32,
+        pending: m.pending,
+    };
     if to < n {
         return go(w, 1, to + 1);
     }
@@ -279,9 +323,15 @@ fn in_f(m: Moving, d: &mut [u8; 1024], s: &[u8], at: usize, n: usize) -> Moved
 {
     let len = m.len;
     let to = fill(d, len, s, at, n);
-    let mut w = m;
-    w.len = len + (to - at);
-    w.pending = m.pending + (to - at) as u32;
+    let w = Moving {
+        place: m.place,
+        id: m.id,
+        c1: m.c1,
+        c2: m.c2,
+        len: len + (to - at),
+        outside: m.outside,
+        pending: m.pending + (to - at) as u32,
+    };
     if to < n {
         let b = s[to];
         if b == Reader::DLE {
@@ -309,8 +359,15 @@ fn in_fd(mode: u8, m: Moving, d: &mut [u8; 1024], b: u8, at: usize, n: usize) ->
             let k = m.len;
             if k < 1024 {
                 d[k] = b;
-                let mut w = m;
-                w.len = k + 1;
+                let w = Moving {
+                    place: m.place,
+                    id: m.id,
+                    c1: m.c1,
+                    c2: m.c2,
+                    len: k + 1,
+                    outside: m.outside,
+                    pending: m.pending,
+                };
                 go(w, 2, at)
             } else {
                 shut(m, Act::Refused(4), b, at)
@@ -336,8 +393,15 @@ fn in_c0(m: Moving, b: u8, at: usize, n: usize) -> Moved
     requires { ⌜ Fits m (at - 1) n ⌝ }
     ensures { λ r. ⌜ ((k : ℕ) (a : List ℕ) → length a ≡ 1024 → Pends m a → Steps k m a a b at n r) ⌝ }
 {
-    let mut w = m;
-    w.c1 = b;
+    let w = Moving {
+        place: m.place,
+        id: m.id,
+        c1: b,
+        c2: m.c2,
+        len: m.len,
+        outside: m.outside,
+        pending: m.pending,
+    };
     go(w, 5, at)
 }
 
@@ -347,8 +411,15 @@ fn in_c1(m: Moving, b: u8, at: usize, n: usize) -> Moved
     requires { ⌜ Fits m (at - 1) n ⌝ }
     ensures { λ r. ⌜ ((k : ℕ) (a : List ℕ) → length a ≡ 1024 → Pends m a → Steps k m a a b at n r) ⌝ }
 {
-    let mut w = m;
-    w.c2 = b;
+    let w = Moving {
+        place: m.place,
+        id: m.id,
+        c1: m.c1,
+        c2: b,
+        len: m.len,
+        outside: m.outside,
+        pending: m.pending,
+    };
     go(w, 6, at)
 }
 
@@ -585,35 +656,35 @@ fn store(l: Latest, id: u8, d: &[u8], len: usize) -> Latest
     match id {
         0x43 => {
             let mut x = [0u8; 6];
-            octets::put(&d[..len], &mut x, 0);
+            octets::put(&d[..6], &mut x, 0);
             n.has43 = true;
             n.d43 = x;
             n
         }
         0x46 => {
             let mut x = [0u8; 10];
-            octets::put(&d[..len], &mut x, 0);
+            octets::put(&d[..10], &mut x, 0);
             n.has46 = true;
             n.d46 = x;
             n
         }
         0x4A => {
             let mut x = [0u8; 33];
-            octets::put(&d[..len], &mut x, 0);
+            octets::put(&d[..33], &mut x, 0);
             n.has4a = true;
             n.d4a = x;
             n
         }
         0x4B => {
             let mut x = [0u8; 42];
-            octets::put(&d[..len], &mut x, 0);
+            octets::put(&d[..42], &mut x, 0);
             n.has4b = true;
             n.d4b = x;
             n
         }
         0xEB => {
             let mut x = [0u8; 26];
-            octets::put(&d[..len], &mut x, 0);
+            octets::put(&d[..26], &mut x, 0);
             n.haseb = true;
             n.deb = x;
             n
@@ -724,6 +795,25 @@ fn pending_of(h: Head, d: &[u8]) -> usize
     h.place as usize + (len + octets::count_dle(&d[..len]))
 }
 
+// Question 2, but for the pending bytes of an open frame. They need the array, and to pass it on is to copy it.
+fn plausible(h: Head, l: Latest) -> bool
+    ensures { λ r. ⌜ Decides (Plausible h l) r ⌝ }
+{
+    if !balanced(h) {
+        return false;
+    }
+    if !latest_ok(l) {
+        return false;
+    }
+    if h.place < 2 {
+        if h.pending == h.place as u32 {
+            return true;
+        }
+        return false;
+    }
+    open(h)
+}
+
 impl Reader {
     // The service codes.
     pub const DLE: u8 = 0x10;
@@ -822,6 +912,24 @@ impl Reader {
         let g = o.head;
         r.head = g;
         let e = o.event;
+        if o.keep {
+            let old = r.latest;
+            let l = store(old, o.id, &r.bytes, o.len);
+            r.latest = l;
+            let bytes = r.bytes;
+            let a = Answer {
+                event: e,
+                id: o.id,
+                len: o.len,
+                bytes: bytes,
+                closed: o.closed,
+            };
+            return Fed {
+                reader: r,
+                answer: a,
+                taken: t.at,
+            };
+        }
         let bytes = r.bytes;
         let a = Answer {
             event: e,
@@ -830,16 +938,6 @@ impl Reader {
             bytes: bytes,
             closed: o.closed,
         };
-        if o.keep {
-            let old = r.latest;
-            let l = store(old, o.id, &bytes, o.len);
-            r.latest = l;
-            return Fed {
-                reader: r,
-                answer: a,
-                taken: t.at,
-            };
-        }
         Fed {
             reader: r,
             answer: a,
@@ -847,27 +945,12 @@ impl Reader {
         }
     }
 
-    // Question 2.
-    fn possible(self) -> bool
-        ensures { λ r. ⌜ Decides (Possible (view self)) r ⌝ }
+    // Question 2, the last clause for an open frame: pending is exactly its bytes.
+    fn held(self) -> bool
+        requires { ⌜ self .head .len ≤ 1024 ⌝ }
+        ensures { λ r. ⌜ Decides (Held (self .head) (self .bytes)) r ⌝ }
     {
         let h = self.head;
-        if !balanced(h) {
-            return false;
-        }
-        let l = self.latest;
-        if !latest_ok(l) {
-            return false;
-        }
-        if h.place < 2 {
-            if h.pending == h.place as u32 {
-                return true;
-            }
-            return false;
-        }
-        if !open(h) {
-            return false;
-        }
         let d = self.bytes;
         if h.pending as usize == pending_of(h, &d) {
             return true;
@@ -883,8 +966,14 @@ impl Reader {
         if 2 <= h.mode {
             return self.refuse(1);
         }
-        if !self.possible() {
+        let l = self.latest;
+        if !plausible(h, l) {
             return self.refuse(2);
+        }
+        if 2 <= h.place {
+            if !self.held() {
+                return self.refuse(2);
+            }
         }
         if h.fed >= Reader::LIMIT {
             if 0 < s.len() {

@@ -1,17 +1,22 @@
 -- `checksum::onward` meets its contract.
-use mathlib.Core.Path.{_≡_, sym}
+use mathlib.Core.Path.{_≡_, sym, _∙_}
+use mathlib.Core.Bool.{true}
 use Prim.Native.Nat.{suc, _<_}
 use native.Mathlib.Numerals.{add-one}
 use native.Mathlib.Omega.{arith}
 use lib.ListN.{length, drop}
 use lib.Seq.{drop-cons}
+use Rattle.octets.proofs.PlainLaws.{Plain, plain-of}
 use Rattle.checksum.proofs.Fours.{four}
 use borrow.Author.Needs.{needs}
 use Rattle.checksum.proofs.onward.Statement.{statement}
 use Rattle.checksum.proofs.onward.Tie as tie
 
-plain-requires : tie.Need-plain-requires
-plain-requires c κs = search needs
+plain-here : (p : tie.After-four-plain) → p .four-plain .result ≡ true → Plain (p .before .before .args .s .now) (p .before .before .args .at)
+plain-here p e = plain-of _ _ (sym (p .four-plain .ensures) ∙ e)
+
+four-plain-requires : tie.Need-four-plain-requires
+four-plain-requires c κs = search needs
 
 shared-slice-read-pair : tie.Need-shared-slice-read-pair
 shared-slice-read-pair c = search needs
@@ -21,8 +26,7 @@ add-pair c = search needs
 
 shared-slice-read-pair-2 : tie.Need-shared-slice-read-pair-2
 shared-slice-read-pair-2 c =
-    let p = c .before .before .before in
-    omega (arith, p .plain .ensures (c .before .before .if1 .taken) .there)
+    omega (arith, plain-here (c .before .before .before) (c .before .before .if1 .taken) .there)
 
 pair-requires : tie.Need-pair-requires
 pair-requires c κs = search needs
@@ -32,16 +36,14 @@ add-pair-2 c = search needs
 
 shared-slice-read-pair-3 : tie.Need-shared-slice-read-pair-3
 shared-slice-read-pair-3 c =
-    let p = c .before .before .before .before .before in
-    omega (arith, p .plain .ensures (c .before .before .before .before .if1 .taken) .there)
+    omega (arith, plain-here (c .before .before .before .before .before) (c .before .before .before .before .if1 .taken) .there)
 
 add-pair-3 : tie.Need-add-pair-3
 add-pair-3 c = search needs
 
 shared-slice-read-pair-4 : tie.Need-shared-slice-read-pair-4
 shared-slice-read-pair-4 c =
-    let p = c .before .before .before .before .before .before in
-    omega (arith, p .plain .ensures (c .before .before .before .before .before .if1 .taken) .there)
+    omega (arith, plain-here (c .before .before .before .before .before .before) (c .before .before .before .before .before .if1 .taken) .there)
 
 pair-requires-2 : tie.Need-pair-requires-2
 pair-requires-2 c κs = search needs
@@ -56,7 +58,7 @@ returns : tie.Need-returns
 returns c =
     let i = c .before .before .before .before .before .before .before in
     let x = i .before .before .before .args in
-    let p = i .before .plain .ensures (i .if1 .taken) in
+    let p = plain-here (i .before) (i .if1 .taken) in
     let one = c .before .before .before .before .pair .ensures in
     let two = c .before .pair2 .ensures in
     let e = c .after-four .ensures in
@@ -82,7 +84,7 @@ pub onward-spec : {M : Type 1} → statement M
 onward-spec =
     tie.close
     (tie.spec
-    plain-requires
+    four-plain-requires
     shared-slice-read-pair
     add-pair
     shared-slice-read-pair-2

@@ -26,20 +26,20 @@ use Rattle.reader.proofs.in_f.Tie as tie
 fill-requires : tie.Need-fill-requires
 fill-requires c κs = search needs
 
-sub-w : tie.Need-sub-w
-sub-w c = search needs
+sub-t11 : tie.Need-sub-t11
+sub-t11 c = search needs
 
-add-w : tie.Need-add-w
-add-w c = search needs
+add-t12 : tie.Need-add-t12
+add-t12 c = search needs
 
-sub-w-2 : tie.Need-sub-w-2
-sub-w-2 c = search needs
+sub-t13 : tie.Need-sub-t13
+sub-t13 c = search needs
 
-cast-w : tie.Need-cast-w
-cast-w c = search needs
+cast-t14 : tie.Need-cast-t14
+cast-t14 c = search needs
 
-add-w-2 : tie.Need-add-w-2
-add-w-2 c = search needs
+add-t15 : tie.Need-add-t15
+add-t15 c = search needs
 
 shared-slice-read-b : tie.Need-shared-slice-read-b
 shared-slice-read-b c = search needs
@@ -143,11 +143,11 @@ in-f-spec =
     tie.close
     (tie.spec
     fill-requires
-    sub-w
-    add-w
-    sub-w-2
-    cast-w
-    add-w-2
+    sub-t11
+    add-t12
+    sub-t13
+    cast-t14
+    add-t15
     shared-slice-read-b
     add-go
     go-requires

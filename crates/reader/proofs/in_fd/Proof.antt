@@ -22,8 +22,8 @@ use Rattle.reader.proofs.in_fd.Tie as tie
 element-write-d : tie.Need-element-write-d
 element-write-d c = search needs
 
-add-w : tie.Need-add-w
-add-w c = search needs
+add-t14 : tie.Need-add-t14
+add-t14 c = search needs
 
 go-requires : tie.Need-go-requires
 go-requires c κs = search needs
@@ -164,7 +164,7 @@ in-fd-spec =
     tie.close
     (tie.spec
     element-write-d
-    add-w
+    add-t14
     go-requires
     shut-requires
     shut-requires-2

@@ -24,14 +24,14 @@ use Rattle.reader.proofs.in_w.Tie as tie
 skip-requires : tie.Need-skip-requires
 skip-requires c κs = search needs
 
-sub-w : tie.Need-sub-w
-sub-w c = search needs
+sub-t7 : tie.Need-sub-t7
+sub-t7 c = search needs
 
-cast-w : tie.Need-cast-w
-cast-w c = search needs
+cast-t8 : tie.Need-cast-t8
+cast-t8 c = search needs
 
-add-w : tie.Need-add-w
-add-w c = search needs
+add-t9 : tie.Need-add-t9
+add-t9 c = search needs
 
 add-go : tie.Need-add-go
 add-go c = search needs
@@ -81,4 +81,4 @@ returns-2 c k a w =
 
 pub in-w-spec : {M : Type 1} → statement M
 in-w-spec =
-    tie.close (tie.spec skip-requires sub-w cast-w add-w add-go go-requires returns returns-2)
+    tie.close (tie.spec skip-requires sub-t7 cast-t8 add-t9 add-go go-requires returns returns-2)

@@ -1,15 +1,37 @@
 -- `reader::Reader::feed` meets its contract: questions 1 to 3 in order, then the bytes.
-use mathlib.Core.Path.{_≡_, refl, sym, ap, _∙_, subst, subst⁻¹}
-use mathlib.Core.List.{List}
-use Prim.Native.Nat.{ℕ, _+_, _-_, _≤_, _<_}
+use mathlib.Core.Path.{_≡_}
+use mathlib.Core.Logic.{inl, inr}
 use native.Mathlib.Omega.{arith}
 use borrow.Author.Needs.{needs}
-use lib.ListN.{length, take, getD}
-use denote.Ref.{now}
-use mathlib.Core.Logic.{inl, inr}
+use lib.ListN.{length}
+use Rattle.line.specs.Record.{Possible}
+use Rattle.reader.specs.View.{view}
 use Rattle.reader.proofs.Deciding.{decided-yes, decided-no}
+use Rattle.reader.proofs.Question.{possible-low, possible-open, plausible-of, held-of}
 use Rattle.reader.proofs.Reader.feed.Statement.{statement}
 use Rattle.reader.proofs.Reader.feed.Tie as tie
+
+-- the arrays of the record have their lengths
+whole : (c : tie.Start) → length (c .args .self .bytes) ≡ 1024
+whole c = search needs
+
+long-4a : (c : tie.Start) → length (c .args .self .latest .d4a) ≡ 33
+long-4a c = search needs
+
+long-4b : (c : tie.Start) → length (c .args .self .latest .d4b) ≡ 42
+long-4b c = search needs
+
+-- question 2 is yes, whether a frame is open or not
+possible : (q : tie.Joined3) → Possible (view (q .before .before .before .before .before .before .before .before .before .args .self))
+possible q =
+    let i = q .before .before in
+    let s = i .before .before .before .before .before .before .before in
+    let r = s .args .self in
+    let p = decided-yes (i .before .plausible .result) (i .before .plausible .ensures) (i .if2 .left) in
+    elim (q .if3 .came) [
+      | inl w ↦ possible-open r p (w .0 .taken) (decided-yes (w .1 .result) (w .1 .ensures) (w .2 .left)) (whole s) (long-4a s) (long-4b s)
+      | inr w ↦ possible-low r p (w .left) (long-4a s) (long-4b s)
+    ]
 
 refuse-requires : tie.Need-refuse-requires
 refuse-requires c κs = search needs
@@ -23,48 +45,77 @@ returns c =
       rest = λ z. absurd (let w : ⊥ = omega (arith, c .before .if1 .taken) in w);
     }
 
-possible-requires : tie.Need-possible-requires
-possible-requires c κs = search needs
+plausible-requires : tie.Need-plausible-requires
+plausible-requires c κs = search needs
 
 refuse-requires-2 : tie.Need-refuse-requires-2
 refuse-requires-2 c κs = search needs
 
 returns-2 : tie.Need-returns-2
 returns-2 c =
-    let no = decided-no (c .before .before .possible .result) (c .before .before .possible .ensures) (c .before .if2 .taken) in
+    let i = c .before in
+    let a = i .before .before .before in
+    let r = a .before .before .before .before .args .self in
+    let no : Possible (view r) → ⊥ = λ p. decided-no (i .before .plausible .result) (i .before .plausible .ensures) (i .if2 .taken) (plausible-of r p) in
     record {
-      one = λ z. absurd (let w : ⊥ = omega (arith, c .before .before .before .if1 .left) in w);
+      one = λ z. absurd (let w : ⊥ = omega (arith, a .if1 .left) in w);
       two = λ z f. (c .refuse2 .ensures .same, c .refuse2 .ensures .said, c .refuse2 .ensures .taken);
       three = λ z p. absurd (no p);
       rest = λ z p. absurd (no p);
     }
+
+held-requires : tie.Need-held-requires
+held-requires c κs =
+    let i = c .before .before in
+    decided-yes (i .before .plausible .result) (i .before .plausible .ensures) (i .if2 .left) .opened (c .if3 .taken) .short
 
 refuse-requires-3 : tie.Need-refuse-requires-3
 refuse-requires-3 c κs = search needs
 
 returns-3 : tie.Need-returns-3
 returns-3 c =
-    let p = decided-yes (c .before .before .before .before .before .possible .result) (c .before .before .before .before .before .possible .ensures) (c .before .before .before .before .if2 .left) in
+    let h = c .before .before in
+    let o = h .before in
+    let a = o .before .before .before .before .before in
+    let s = a .before .before .before .before in
+    let r = s .args .self in
+    let no : Possible (view r) → ⊥ = λ p. decided-no (h .held .result) (h .held .ensures) (c .before .if4 .taken) (held-of r p (o .if3 .taken) (whole s)) in
     record {
-      one = λ z. absurd (let w : ⊥ = omega (arith, c .before .before .before .before .before .before .if1 .left) in w);
-      two = λ z f. absurd (f p);
-      three = λ z q o l. (c .refuse3 .ensures .same, c .refuse3 .ensures .said, c .refuse3 .ensures .taken);
-      rest = λ z q o. absurd (let w : ⊥ = omega (arith, o (c .before .if4 .taken), c .before .before .if3 .taken) in w);
+      one = λ z. absurd (let w : ⊥ = omega (arith, a .if1 .left) in w);
+      two = λ z f. (c .refuse3 .ensures .same, c .refuse3 .ensures .said, c .refuse3 .ensures .taken);
+      three = λ z p. absurd (no p);
+      rest = λ z p. absurd (no p);
+    }
+
+refuse-requires-4 : tie.Need-refuse-requires-4
+refuse-requires-4 c κs = search needs
+
+returns-4 : tie.Need-returns-4
+returns-4 c =
+    let q = c .before .before .before .before in
+    let a = q .before .before .before .before .before in
+    record {
+      one = λ z. absurd (let w : ⊥ = omega (arith, a .if1 .left) in w);
+      two = λ z f. absurd (f (possible q));
+      three = λ z p o l. (c .refuse4 .ensures .same, c .refuse4 .ensures .said, c .refuse4 .ensures .taken);
+      rest = λ z p o. absurd (let w : ⊥ = omega (arith, o (c .before .if6 .taken), c .before .before .if5 .taken) in w);
     }
 
 read-requires : tie.Need-read-requires
 read-requires c κs =
-    (omega (arith, c .before .before .before .before .if1 .left), decided-yes (c .before .before .before .possible .result) (c .before .before .before .possible .ensures) (c .before .before .if2 .left))
+    let q = c .before .before in
+    (omega (arith, q .before .before .before .before .before .if1 .left), possible q)
 
-returns-4 : tie.Need-returns-4
-returns-4 c =
+returns-5 : tie.Need-returns-5
+returns-5 c =
     let j = c .before in
-    let p = decided-yes (j .before .before .before .possible .result) (j .before .before .before .possible .ensures) (j .before .before .if2 .left) in
+    let q = j .before .before in
+    let a = q .before .before .before .before .before in
     record {
-      one = λ z. absurd (let w : ⊥ = omega (arith, j .before .before .before .before .if1 .left) in w);
-      two = λ z f. absurd (f p);
-      three = λ z q o l. absurd (elim (j .if3 .came) [ inl w ↦ (let v : ⊥ = omega arith in v) | inr w ↦ (let v : ⊥ = omega (arith, w .left, l) in v) ]);
-      rest = λ z q o. (c .read .ensures .after, c .read .ensures .said, c .read .ensures .taken);
+      one = λ z. absurd (let w : ⊥ = omega (arith, a .if1 .left) in w);
+      two = λ z f. absurd (f (possible q));
+      three = λ z p o l. absurd (elim (j .if5 .came) [ inl w ↦ (let v : ⊥ = omega arith in v) | inr w ↦ (let v : ⊥ = omega (arith, w .left, l) in v) ]);
+      rest = λ z p o. (c .read .ensures .after, c .read .ensures .said, c .read .ensures .taken);
     }
 
 pub feed-spec : {M : Type 1} → statement M
@@ -73,10 +124,13 @@ feed-spec =
     (tie.spec
     refuse-requires
     returns
-    possible-requires
+    plausible-requires
     refuse-requires-2
     returns-2
+    held-requires
     refuse-requires-3
     returns-3
+    refuse-requires-4
+    returns-4
     read-requires
-    returns-4)
+    returns-5)
