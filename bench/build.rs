@@ -1,4 +1,4 @@
-//! Tells the linker where libexport.a is: in the folder that BINR_LIB_DIR names, or by
+//! Tells the linker where libexport.a and libtiming.a are: in the folder that BINR_LIB_DIR names, or by
 //! default in ../target/staticlib relative to this package.
 
 use std::env;
@@ -17,17 +17,19 @@ fn main() {
             Path::new(&package).join("../target/staticlib")
         }
     };
-    let archive = folder.join("libexport.a");
-    if !archive.is_file() {
-        println!(
-            "cargo:warning={} is missing: build it, or set BINR_LIB_DIR",
-            archive.display()
-        );
-    }
-    // A rebuilt library must be linked again.
-    println!("cargo:rerun-if-changed={}", archive.display());
     println!("cargo:rustc-link-search=native={}", folder.display());
-    // Not bundled into this package's own library: link-time optimisation would then take the
-    // archive's objects for its own.
-    println!("cargo:rustc-link-lib=static:-bundle=export");
+    for library in ["export", "timing"] {
+        let archive = folder.join(format!("lib{library}.a"));
+        if !archive.is_file() {
+            println!(
+                "cargo:warning={} is missing: build it, or set BINR_LIB_DIR",
+                archive.display()
+            );
+        }
+        // A rebuilt library must be linked again.
+        println!("cargo:rerun-if-changed={}", archive.display());
+        // Not bundled into this package's own library: link-time optimisation would then take
+        // the archive's objects for its own.
+        println!("cargo:rustc-link-lib=static:-bundle={library}");
+    }
 }

@@ -11,7 +11,7 @@ mod export {
             len: usize,
             out: *mut u8,
             out_len: usize,
-        ) -> u64;
+        ) -> i64;
         pub fn binr_write(
             mode: u8,
             id: u8,
@@ -19,14 +19,15 @@ mod export {
             body_len: usize,
             out: *mut u8,
             out_len: usize,
-        ) -> u64;
+        ) -> i64;
         pub fn binr_judge(id: u8, body: *const u8, len: usize) -> u8;
         pub fn binr_count(mode: u8, bytes: *const u8, len: usize) -> u64;
+        pub fn binr_time(mode: u8, bytes: *const u8, len: usize) -> u64;
     }
 }
 
-/// What a call that fills a buffer answers: refusal 0 where it succeeded, and the length.
-/// The length of a refused call is kept, because it has to be 0.
+/// What a call that fills a buffer answers: refusal 0 where it succeeded, and the length, which
+/// is 0 where it was refused.
 #[derive(Clone, Copy, Debug, PartialEq, Eq)]
 pub struct Filled {
     pub refusal: u32,
@@ -34,10 +35,14 @@ pub struct Filled {
 }
 
 impl Filled {
-    fn unpack(word: u64) -> Filled {
-        Filled {
-            refusal: (word >> 32) as u32,
-            length: (word & 0xFFFF_FFFF) as usize,
+    /// The library returns the length, or the refusal's number with a minus.
+    fn unpack(answer: i64) -> Filled {
+        match usize::try_from(answer) {
+            Ok(length) => Filled { refusal: 0, length },
+            Err(_) => Filled {
+                refusal: u32::try_from(-answer).expect("a refusal's number is small"),
+                length: 0,
+            },
         }
     }
 }
@@ -81,4 +86,10 @@ pub fn judge(id: u8, body: &[u8]) -> u8 {
 pub fn count(mode: u8, bytes: &[u8]) -> u64 {
     // SAFETY: the region is valid for its length during the call.
     unsafe { export::binr_count(mode, bytes.as_ptr(), bytes.len()) }
+}
+
+/// The same number, from libtiming.a, where the slice call has one caller.
+pub fn time(mode: u8, bytes: &[u8]) -> u64 {
+    // SAFETY: the region is valid for its length during the call.
+    unsafe { export::binr_time(mode, bytes.as_ptr(), bytes.len()) }
 }

@@ -1,7 +1,10 @@
 //! Nanoseconds per byte of the library's slice call beside those of the reference's `feed`.
 //!
 //! Each side is called once per repetition, and counts the events of the whole input by
-//! feeding it to a fresh reader, slice after slice, up to each event.
+//! feeding it to a fresh reader, slice after slice, up to each event. The library's side is
+//! twice there: with the slice call in one place of the program (libtiming.a), and with the
+//! slice call shared by several functions (libexport.a), where the compiler does not take it
+//! in and the record is copied more often.
 //!
 //! Usage: benchmark [bytes per input] [repetitions]
 
@@ -28,8 +31,8 @@ fn main() {
     ];
     println!("best of {repetitions} interleaved repetitions, ns per byte");
     println!(
-        "{:<26} {:>4} {:>10} {:>8} {:>9} {:>9} {:>17}",
-        "input", "mode", "bytes", "events", "library", "reference", "library/reference"
+        "{:<26} {:>4} {:>8} {:>9} {:>9} {:>6} {:>8} {:>6}",
+        "input", "mode", "events", "reference", "one place", "ratio", "shared", "ratio"
     );
     for (name, fill) in inputs {
         for mode in [0, 1] {
@@ -39,16 +42,17 @@ fn main() {
                 fill(&mut random, mode, &mut input);
             }
             let events = reference::count(mode, &input);
-            let counted = library::count(mode, &input);
-            if counted != events {
-                eprintln!("{name}, mode {mode}: the library counts {counted} events, not {events}");
-                exit(1);
+            for counted in [library::time(mode, &input), library::count(mode, &input)] {
+                if counted != events {
+                    eprintln!("{name}, mode {mode}: the library counts {counted} events, not {events}");
+                    exit(1);
+                }
             }
-            let (library, reference) = compare(mode, &input, repetitions);
+            let [reference, alone, shared] = compare(mode, &input, repetitions);
             println!(
-                "{name:<26} {mode:>4} {:>10} {events:>8} {library:>9.3} {reference:>9.3} {:>17.2}",
-                input.len(),
-                library / reference
+                "{name:<26} {mode:>4} {events:>8} {reference:>9.3} {alone:>9.3} {:>6.2} {shared:>8.3} {:>6.2}",
+                alone / reference,
+                shared / reference
             );
         }
     }
@@ -68,19 +72,17 @@ fn number(argument: Option<String>, default: usize) -> usize {
 }
 
 /// The best time of each side. The sides take turns, and take turns at going first, so that
-/// whatever else the machine does falls on both.
-fn compare(mode: u8, input: &[u8], repetitions: usize) -> (f64, f64) {
-    let (mut library, mut reference) = (f64::MAX, f64::MAX);
+/// whatever else the machine does falls on all.
+fn compare(mode: u8, input: &[u8], repetitions: usize) -> [f64; 3] {
+    let sides: [fn(u8, &[u8]) -> u64; 3] = [reference::count, library::time, library::count];
+    let mut best = [f64::MAX; 3];
     for repetition in 0..repetitions {
-        for side in 0..2 {
-            if (repetition + side) % 2 == 0 {
-                library = library.min(time(library::count, mode, input));
-            } else {
-                reference = reference.min(time(reference::count, mode, input));
-            }
+        for turn in 0..3 {
+            let side = (repetition + turn) % 3;
+            best[side] = best[side].min(time(sides[side], mode, input));
         }
     }
-    (library, reference)
+    best
 }
 
 fn time(count: fn(u8, &[u8]) -> u64, mode: u8, input: &[u8]) -> f64 {

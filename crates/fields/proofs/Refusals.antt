@@ -6,7 +6,7 @@ use Prim.Native.Nat.{ℕ}
 use native.Mathlib.Omega.{arith}
 use borrow.Author.Tests.{leb-true}
 use lib.Dec.{leb}
-use Rattle.kinds.specs.Ranges.{antenna}
+use Rattle.ranges.specs.Ranges.{antenna}
 use Rattle.kinds.specs.Kinds.{table, rowIn, allows, lengthOk, content}
 use Rattle.encoding.specs.Written.{refused, writtenOf, filledOf}
 use Rattle.encoding.proofs.WrittenLaws.{written-refused, filled-refused}

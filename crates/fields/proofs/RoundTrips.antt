@@ -14,9 +14,9 @@ use lib.Signed.{mag}
 use Rattle.octets.specs.Placing.{placed}
 use Rattle.octets.specs.Signed.{signed}
 use Rattle.octets.proofs.SignedLaws.{signed-unsigned, unsigned-signed}
-use Rattle.kinds.specs.Ranges.{all, byte, antenna, free, in1F, in20, in23, in43}
+use Rattle.ranges.specs.Ranges.{all, byte, antenna, free, in1F, in20, in23, in43}
 use Rattle.kinds.specs.Kinds.{table, rowIn, only, content}
-use Rattle.kinds.proofs.CountLaws.{all-at}
+use Rattle.ranges.proofs.CountLaws.{all-at}
 use Rattle.encoding.specs.Written.{refused, accepted, writtenOf}
 use Rattle.encoding.proofs.WrittenLaws.{asked, written-judged, written-back, written-anew}
 use Rattle.encoding.proofs.AcceptedLaws.{Bytes, accepted-parts, two-lengths, one-length, spelled}

@@ -1,5 +1,4 @@
 // The kinds of message of document 01, and which messages are acceptable: its questions 10 to 12.
-mod ranges; // question 12: the ranges of each kind's fields
 mod table; // questions 10 and 11: the twenty kinds and their lengths
 
 ghost use mathlib.Core.Path.{_≡_};

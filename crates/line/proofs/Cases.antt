@@ -6,7 +6,7 @@ use Rattle.octets.specs.Number.{numberOf, numberAt}
 use Rattle.octets.specs.Signed.{signed}
 use Rattle.octets.specs.Stuffing.{stuffed}
 use Rattle.checksum.specs.Checksum.{shifted, shiftedBy, afterByte, afterBytes, checksum}
-use Rattle.kinds.specs.Ranges.{all, count}
+use Rattle.ranges.specs.Ranges.{all, count}
 use Rattle.kinds.specs.Kinds.{table, rowIn, allows, chosen49, lengthOk, content}
 use Rattle.line.specs.Frame.{modeOf, classOf}
 use Rattle.line.specs.Record.{Rec}

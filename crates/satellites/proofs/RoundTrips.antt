@@ -16,7 +16,7 @@ use Rattle.octets.specs.Placing.{placed}
 use Rattle.octets.specs.Signed.{int8}
 use Rattle.octets.proofs.NumberLaws.{number-in}
 use Rattle.octets.proofs.SignedLaws.{signed-unsigned, unsigned-signed}
-use Rattle.kinds.specs.Ranges.{byte, in47}
+use Rattle.ranges.specs.Ranges.{byte, in47}
 use Rattle.kinds.specs.Kinds.{table, rowIn}
 use Rattle.encoding.specs.Written.{accepted, writtenOf}
 use Rattle.encoding.proofs.WrittenLaws.{asked, written-judged, written-back, written-anew}

@@ -4,7 +4,7 @@ use mathlib.Core.List.{List, [], _∷_, _++_}
 use Prim.Native.Nat.{ℕ, _+_, _-_, _*_}
 use lib.Dec.{eqb}
 use lib.ListN.{getD, replicate}
-use Rattle.kinds.specs.Ranges.{byte}
+use Rattle.ranges.specs.Ranges.{byte}
 use Rattle.kinds.specs.Kinds.{content}
 use Rattle.encoding.specs.declared.Written.{Written}
 use Rattle.encoding.specs.Written.{writtenOf, filledOf}

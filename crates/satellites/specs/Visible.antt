@@ -9,7 +9,7 @@ use lib.IntN.{pos}
 use lib.ListN.{length, getD, replicate}
 use Rattle.octets.specs.Number.{numberAt}
 use Rattle.octets.specs.Signed.{int8, unsigned}
-use Rattle.kinds.specs.Ranges.{byte}
+use Rattle.ranges.specs.Ranges.{byte}
 use Rattle.kinds.specs.Kinds.{content}
 use Rattle.encoding.specs.declared.Written.{Written}
 use Rattle.encoding.specs.Written.{refused, writtenOf, filledOf}

@@ -6,7 +6,7 @@ use native.Mathlib.Omega.{arith}
 use borrow.Author.Count.{below-more}
 use borrow.Author.Needs.{needs}
 use borrow.Author.Tests.{eqb-true, eq-eqb}
-use Rattle.kinds.proofs.CountLaws.{never}
+use Rattle.ranges.proofs.CountLaws.{never}
 use Rattle.satellites.specs.Visible.{Holds}
 use Rattle.satellites.proofs.find_satellite.Statement.{statement}
 use Rattle.satellites.proofs.find_satellite.Tie as tie

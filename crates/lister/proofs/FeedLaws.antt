@@ -1,0 +1,166 @@
+-- What one slice call of the reader comes to in a part of a listing: `last` where it takes nothing, `more` where it takes something.
+use mathlib.Core.Bool.{Bool, true, false, cond}
+use mathlib.Core.List.{List, [], _∷_, _++_}
+use mathlib.Core.Path.{_≡_, refl, sym, ap, _∙_, subst, subst⁻¹}
+use Prim.Native.Nat.{ℕ, _+_, _-_, _≤_, _<_}
+use native.Mathlib.Omega.{arith}
+use borrow.Author.Tests.{eqb-true, eqb-false, leb-true, leb-false, ltb-true, ltb-false}
+use lib.Dec.{eqb, leb, ltb}
+use lib.ListN.{length, drop}
+use Rattle.line.specs.Table.{Event as Said}
+use Rattle.line.specs.Table.Event.{nothing, message, refusal}
+use Rattle.line.specs.Record.{Rec, Possible, Asked, limit, walk}
+use Rattle.line.proofs.SliceSteps.{possible-stable, walk-fits}
+use Rattle.reader.specs.declared.Reader.{Reader}
+use Rattle.reader.specs.declared.Fed.{Fed}
+use Rattle.reader.specs.View.{Parts, view, partsOf, shown}
+use Rattle.reader.specs.Posts.{FeedPost}
+use Rattle.lister.specs.Listing.{lineOf, longest, Piece, piece}
+use Rattle.lister.specs.Posts.{numberOf, lineShown}
+use Rattle.lister.proofs.PieceLaws.{walk-mode, walk-possible, walk-fed, walk-some, ahead, rest, piece-full, piece-limit, piece-walk}
+
+-- the line of an answer, as the code writes it
+abbrev pub lineFrom : Fed → List ℕ
+lineFrom x = lineShown (x .reader .head .fed - 1) (x .answer .event) (x .answer .id) (x .answer .closed)
+
+line-shown : (o : ℕ) (a : Said) → lineShown o (shown a .event) (shown a .id) (shown a .closed) ≡ lineOf o a
+line-shown o nothing = refl
+line-shown o (message id d n) = refl
+line-shown o (refusal v id n) = refl
+
+-- the bytes that are offered
+abbrev pub offered : ℕ → List ℕ → List ℕ
+offered room s = cond (ltb room longest) [] s
+
+-- a part of a listing that leaves the reader g: the refusal v, n bytes, the lines t
+abbrev pub Out : Reader → List ℕ → ℕ → Reader → ℕ → ℕ → List ℕ → Type 0
+Out r s room g v n t =
+    Asked (view r) ⊥ (λ w. (g ≡ r) × (v ≡ w) × (n ≡ 0) × (t ≡ []))
+    (let p = piece room (view r) s in (view g ≡ p .after) × (v ≡ p .refusal) × (n ≡ p .taken) × (t ≡ p .lines))
+
+-- a slice call that took a byte passed questions 1 to 3
+module _ (r : Reader) (l : List ℕ) (x : Fed) (q : FeedPost r l x) (h : 0 < x .taken) where
+  low : r .head .mode ≤ 1
+  low = by (leb (r .head .mode) 1) refl
+    where
+      by : (t : Bool) → leb (r .head .mode) 1 ≡ t → r .head .mode ≤ 1
+      by true e = leb-true (r .head .mode) 1 e
+      by false e = absurd (let z : ⊥ = omega (arith, q .one (leb-false (r .head .mode) 1 e) .2) in z)
+
+  possible : Possible (view r)
+  possible = possible-stable (view r) (λ f. let z : ⊥ = omega (arith, q .two low f .2) in z)
+
+  room : 0 < length l → r .head .fed < limit
+  room o = by (ltb (r .head .fed) limit) refl
+    where
+      by : (t : Bool) → ltb (r .head .fed) limit ≡ t → r .head .fed < limit
+      by true e = ltb-true (r .head .fed) limit e
+      by false e = absurd (let z : ⊥ = omega (arith, q .three low possible o (ltb-false (r .head .fed) limit e) .2) in z)
+
+  pub passed : (view (x .reader) ≡ walk (view r) l .after)
+      × (partsOf (x .answer) ≡ shown (walk (view r) l .answer))
+      × (x .taken ≡ walk (view r) l .taken)
+  passed = q .rest low possible room
+
+  -- there was something to take, and fed is past 0
+  pub taken-within : x .taken ≤ length l
+  taken-within = omega (arith, passed .2, walk-fits l (view r))
+
+  pub fed-some : 0 < x .reader .head .fed
+  fed-some = omega (arith, ap (λ (v : Rec). v .fed) (passed .0), walk-fed l (view r), passed .2)
+
+pub taken-fits : (r : Reader) (l : List ℕ) (x : Fed) → FeedPost r l x → x .taken ≤ length l
+taken-fits r l x q = by (eqb (x .taken) 0) refl
+  where
+    by : (t : Bool) → eqb (x .taken) 0 ≡ t → x .taken ≤ length l
+    by true e = omega (arith, eqb-true (x .taken) 0 e)
+    by false e = let n = eqb-false (x .taken) 0 e in taken-within r l x q (omega arith)
+
+-- a call that takes nothing and leaves what p says
+abbrev Ends : Fed → Piece → Type 0
+Ends x p = (view (x .reader) ≡ p .after) × (numberOf (x .answer .event) ≡ p .refusal) × (0 ≡ p .taken) × ([] ≡ p .lines)
+
+-- the last call takes nothing: all is listed, there is no room, or it is refused
+pub last : (r : Reader) (s : List ℕ) (room : ℕ) (x : Fed) → FeedPost r (offered room s) x → x .taken ≡ 0
+    → Out r s room (x .reader) (numberOf (x .answer .event)) 0 []
+last r s room x q z =
+    record {
+      one = λ m. let w = q .one m in (w .0, ap (λ (p : Parts). numberOf (p .event)) (w .1), refl, refl);
+      two = λ m n. let w = q .two m n in (w .0, ap (λ (p : Parts). numberOf (p .event)) (w .1), refl, refl);
+      three = λ m p o f. absurd o;
+      rest = λ m p o. by (ltb room longest) refl s q m p;
+    }
+  where
+    -- nothing is offered
+    none : FeedPost r [] x → r .head .mode ≤ 1 → Possible (view r) → Ends x (record { after = view r; refusal = 0; taken = 0; lines = [] })
+    none q m p =
+        let w = q .rest m p (λ o. absurd (omega arith)) in
+        (w .0, ap (λ (p : Parts). numberOf (p .event)) (w .1), refl, refl)
+
+    full : (b : ℕ) (bs : List ℕ) (t : Bool) → ltb (r .head .fed) limit ≡ t → ltb room longest ≡ false → FeedPost r (b ∷ bs) x
+        → r .head .mode ≤ 1 → Possible (view r) → Ends x (piece room (view r) (b ∷ bs))
+    full b bs true e k q m p =
+        let w = q .rest m p (λ o. ltb-true (r .head .fed) limit e) in
+        absurd (omega (arith, w .2, walk-some b bs (view r) e))
+    full b bs false e k q m p =
+        let w = q .three m p (omega arith) (ltb-false (r .head .fed) limit e) in
+        subst⁻¹ (Ends x) (piece-limit room (view r) b bs k e) (ap view (w .0), ap (λ (p : Parts). numberOf (p .event)) (w .1), refl, refl)
+
+    by : (t : Bool) → ltb room longest ≡ t → (s : List ℕ) → FeedPost r (cond t [] s) x → r .head .mode ≤ 1 → Possible (view r)
+        → Ends x (piece room (view r) s)
+    by true k s q m p = subst⁻¹ (Ends x) (piece-full room (view r) s k) (none q m p)
+    by false k [] q m p = none q m p
+    by false k (b ∷ bs) q m p = full b bs (ltb (r .head .fed) limit) refl k q m p
+
+-- where something was taken there was room
+pub room-left : (r : Reader) (s : List ℕ) (room : ℕ) (x : Fed) → FeedPost r (offered room s) x → 0 < x .taken → ltb room longest ≡ false
+room-left r s room x q h = by (ltb room longest) refl q
+  where
+    by : (t : Bool) → ltb room longest ≡ t → FeedPost r (cond t [] s) x → ltb room longest ≡ false
+    by true k q = absurd (omega (arith, taken-within r [] x q h))
+    by false k q = k
+
+-- a call that takes something, and then what is right from where it stopped
+pub more : (r : Reader) (s : List ℕ) (room : ℕ) (x : Fed) → FeedPost r (offered room s) x → 0 < x .taken → (g : Reader) (v n : ℕ) (t : List ℕ)
+    → Out (x .reader) (drop (x .taken) s) (room - length (lineFrom x)) g v n t → Out r s room g v (x .taken + n) (lineFrom x ++ t)
+more r s room x q h g v n t o =
+    record {
+      one = λ m. absurd (omega (arith, q .one m .2));
+      two = λ m f. absurd (omega (arith, q .two m f .2));
+      three = λ m p z f. absurd z;
+      rest = λ m p z.
+          let u = o .rest (rw (mode-kept) m) (kept p) (λ y. absurd y) in (
+            u .0 ∙ ap (λ (y : Piece). y .after) (sym e),
+            u .1 ∙ ap (λ (y : Piece). y .refusal) (sym e),
+            ap (λ (k : ℕ). x .taken + k) (u .2) ∙ ap (λ (y : Piece). y .taken) (sym e),
+            ap (λ (k : List ℕ). lineFrom x ++ k) (u .3) ∙ ap (λ (y : Piece). y .lines) (sym e),
+          );
+    }
+  where
+    k : ltb room longest ≡ false
+    k = room-left r s room x q h
+
+    f : FeedPost r s x
+    f = subst (λ (c : Bool). FeedPost r (cond c [] s) x) k q
+
+    w : (view (x .reader) ≡ walk (view r) s .after)
+        × (partsOf (x .answer) ≡ shown (walk (view r) s .answer))
+        × (x .taken ≡ walk (view r) s .taken)
+    w = passed r s x f h
+
+    mode-kept : x .reader .head .mode ≡ r .head .mode
+    mode-kept = ap (λ (y : Rec). y .mode) (w .0) ∙ walk-mode s (view r)
+
+    kept : Possible (view r) → Possible (view (x .reader))
+    kept p = subst⁻¹ Possible (w .0) (walk-possible s (view r) p)
+
+    line : lineFrom x ≡ lineOf (walk (view r) s .after .fed - 1) (walk (view r) s .answer)
+    line =
+        (λ i. lineShown (w .0 i .fed - 1) (w .1 i .event) (w .1 i .id) (w .1 i .closed))
+        ∙ line-shown (walk (view r) s .after .fed - 1) (walk (view r) s .answer)
+
+    e : piece room (view r) s
+        ≡ ahead (x .taken) (lineFrom x) (piece (room - length (lineFrom x)) (view (x .reader)) (drop (x .taken) s))
+    e =
+        piece-walk s room (view r) k (omega (arith, w .2))
+        ∙ sym (λ i. ahead (w .2 i) (line i) (piece (room - length (line i)) (w .0 i) (drop (w .2 i) s)))

@@ -1,0 +1,8 @@
+pub mod PieceLaws
+pub mod FeedLaws
+pub mod Turns
+pub mod PartLaws
+pub mod FreshLaws
+pub mod Printing
+pub mod Vectors
+pub mod CountLaws

@@ -1,0 +1,74 @@
+-- What a program prints that lists its bytes in parts, over the contracts of the code alone: whatever the parts, it is the listing of
+-- all the bytes.
+use mathlib.Core.Bool.{Bool, true, false, cond}
+use mathlib.Core.List.{List, [], _∷_, _++_}
+use mathlib.Core.Path.{_≡_, refl, sym, ap, _∙_}
+use Prim.Native.Nat.{ℕ, _-_}
+use native.Mathlib.Omega.{arith}
+use lib.Dec.{ltb}
+use lib.ListN.{length, take, drop}
+use Rattle.line.specs.Record.{Rec, limit, eventOf, stepped, fresh}
+use Rattle.line.specs.Record.Fresh.{made}
+use Rattle.reader.specs.declared.Reader.{Reader}
+use Rattle.reader.specs.declared.Fresh.{Fresh}
+use Rattle.reader.specs.View.{view}
+use Rattle.reader.specs.Posts.{FreshPost}
+use Rattle.lister.specs.declared.Part.{Part}
+use Rattle.lister.specs.Listing.{lineOf, totalOf, text, longest, Piece, piece}
+use Rattle.lister.specs.Posts.{Counts, PartPost, Good, Prints}
+use Rattle.lister.specs.Posts.Prints.{ended, full, part}
+use Rattle.lister.proofs.PieceLaws.{pieced, text-piece-more}
+use Rattle.lister.proofs.PartLaws.{part-is, part-good, part-lines}
+use Rattle.lister.proofs.FreshLaws.{fresh-good}
+
+-- where the next byte can't be counted, the total follows
+full-piece : (l m : List ℕ) (room : ℕ) (r : Rec) → piece room r l .refusal ≡ 3
+    → text (piece room r l .after) (drop (piece room r l .taken) (l ++ m)) ≡ totalOf (piece room r l .after)
+full-piece [] m room r h = absurd (omega arith)
+full-piece (b ∷ bs) m room r h =
+    by (ltb room longest) (ltb (r .fed) limit) refl h (full-piece bs m (room - length (lineOf (r .fed) (eventOf r b))) (stepped r b))
+  where
+    s : List ℕ
+    s = lineOf (r .fed) (eventOf r b)
+
+    p : Piece
+    p = piece (room - length s) (stepped r b) bs
+
+    by : (u t : Bool) → ltb (r .fed) limit ≡ t → pieced r s p u t .refusal ≡ 3
+        → (p .refusal ≡ 3 → text (p .after) (drop (p .taken) (bs ++ m)) ≡ totalOf (p .after))
+        → text (pieced r s p u t .after) (drop (pieced r s p u t .taken) (b ∷ (bs ++ m))) ≡ totalOf (pieced r s p u t .after)
+    by true t q h ih = absurd (omega arith)
+    by false true q h ih = ih h
+    by false false q h ih = ap (λ (c : Bool). cond c (s ++ text (stepped r b) (bs ++ m)) (totalOf r)) q
+
+-- one call
+module _ (r : Reader) (s b : List ℕ) (x : Part) (b′ : List ℕ) (q : PartPost r s b x b′) (c : Counts (x .length) b′) (g : Good r) where
+  whole : (m : List ℕ) → text (view r) (s ++ m) ≡ take (x .length) b′ ++ text (view (x .reader)) (drop (x .taken) (s ++ m))
+  whole m =
+      let is = part-is r s b x b′ q c g in
+      text-piece-more s m (length b) (view r)
+      ∙ sym (λ i. part-lines r s b x b′ q c g i ++ text (is .0 i) (drop (is .2 i) (s ++ m)))
+
+  last : (m : List ℕ) → x .refusal ≡ 3 → text (view (x .reader)) (drop (x .taken) (s ++ m)) ≡ totalOf (view (x .reader))
+  last m z =
+      let is = part-is r s b x b′ q c g in
+      (λ i. text (is .0 i) (drop (is .2 i) (s ++ m)))
+      ∙ full-piece s m (length b) (view r) (sym (is .1) ∙ z)
+      ∙ sym (ap totalOf (is .0))
+
+prints : {r : Reader} {l out : List ℕ} → Prints r l out → Good r → out ≡ text (view r) l
+prints ended g = refl
+prints (full {r = r} s m b x b′ q c z) g =
+    ap (λ (y : List ℕ). take (x .length) b′ ++ y) (sym (last r s b x b′ q c g m z)) ∙ sym (whole r s b x b′ q c g m)
+prints (part {r = r} s m b x b′ q c t) g =
+    ap (λ (y : List ℕ). take (x .length) b′ ++ y) (prints t (part-good r s b x b′ q c g)) ∙ sym (whole r s b x b′ q c g m)
+
+-- THE THEOREM: begun with a fresh reader, what is printed of the bytes l is their listing
+pub printed : (m : ℕ) (f : Fresh) → FreshPost m f → f .refusal ≡ 0 → {l out : List ℕ} → Prints (f .reader) l out
+    → (r : Rec) → fresh m ≡ made r → out ≡ text r l
+printed m f q z {l} t r e =
+    let w = fresh-good m f q z in
+    prints t (w .1) ∙ ap (λ (v : Rec). text v l) (same (sym (w .0) ∙ e))
+  where
+    same : {a b : Rec} → made a ≡ made b → a ≡ b
+    same h = cc

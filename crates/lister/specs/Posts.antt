@@ -1,0 +1,71 @@
+-- What the calls return and leave.
+use mathlib.Core.Bool.{cond}
+use mathlib.Core.List.{List, [], _++_}
+use mathlib.Core.Path.{_≡_}
+use Prim.Native.Nat.{ℕ, _≤_}
+use lib.Dec.{ltb}
+use lib.ListN.{length, take, drop}
+use Rattle.octets.specs.Placing.{placed}
+use Rattle.encoding.specs.declared.Written.{Written}
+use Rattle.encoding.specs.Written as Answers
+use Rattle.line.specs.Record.{Asked, Fresh, Possible}
+use Rattle.line.specs.Record.Fresh.{made, refused}
+use Rattle.reader.specs.declared.Reader.{Reader}
+use Rattle.reader.specs.declared.Event.{Event}
+use Rattle.reader.specs.declared.Event.the-variants.{Nothing, Message, Refusal}
+use Rattle.reader.specs.View.{view}
+use Rattle.listing.specs.Text.{eventLine, writtenOf}
+use Rattle.lister.specs.declared.Part.{Part}
+use Rattle.lister.specs.Listing.{totalOf, text, piece}
+
+-- n bytes at the start of xs: what a caller has to know to lend them
+abbrev pub Counts : ℕ → List ℕ → Type 0
+Counts n xs = (n ≤ length xs) × (n ≡ length (take n xs))
+
+-- a part of a listing: refused by 1 or 2, nothing is listed, and else a piece. Of question 3 the piece says where it stops
+abbrev pub PartPost : Reader → List ℕ → List ℕ → Part → List ℕ → Type 0
+PartPost r s b x b′ =
+    Asked (view r) ⊥ (λ v. (x .reader ≡ r) × (x .refusal ≡ v) × (x .taken ≡ 0) × (x .length ≡ 0) × (b′ ≡ b))
+    (let p = piece (length b) (view r) s in
+    (view (x .reader) ≡ p .after)
+    × (x .refusal ≡ p .refusal)
+    × (x .taken ≡ p .taken)
+    × (x .length ≡ length (p .lines))
+    × (b′ ≡ placed b 0 (p .lines)))
+
+-- what a program prints that lists in parts, as its bytes come: s is offered, m is yet to come. The lines of each part; and the
+-- total, once there is nothing to come or the next byte can't be counted
+pub data Prints : Reader → List ℕ → List ℕ → Type 0 where
+  ended : {r : Reader} → Prints r [] (totalOf (view r))
+  full : {r : Reader} (s m b : List ℕ) (x : Part) (b′ : List ℕ) → PartPost r s b x b′ → Counts (x .length) b′ → x .refusal ≡ 3
+      → Prints r (s ++ m) (take (x .length) b′ ++ totalOf (view (x .reader)))
+  part : {r : Reader} {out : List ℕ} (s m b : List ℕ) (x : Part) (b′ : List ℕ) → PartPost r s b x b′ → Counts (x .length) b′
+      → Prints (x .reader) (drop (x .taken) (s ++ m)) out → Prints r (s ++ m) (take (x .length) b′ ++ out)
+
+-- the listing of a slice by a fresh reader: refused as the reader is, else written whole into a buffer that has room for it
+abbrev pub listedOf : Fresh → List ℕ → List ℕ → Written
+listedOf (made r) s b = writtenOf (text r s) b
+listedOf (refused v) s b = Answers.refused v
+
+-- the buffer afterwards; where there is no room, `placed` leaves it
+abbrev pub filledOf : Fresh → List ℕ → List ℕ → List ℕ
+filledOf (made r) s b = placed b 0 (text r s)
+filledOf (refused v) s b = b
+
+-- of private functions: a reader that questions 1 and 2 let pass, and the answer for a text t and so many bytes of room
+abbrev pub Good : Reader → Type 0
+Good r = (r .head .mode ≤ 1) × Possible (view r)
+
+abbrev pub measured : List ℕ → ℕ → Written
+measured t room = cond (ltb room (length t)) (Answers.refused 13) (Answers.accepted (length t))
+
+-- the number of an event in memory, and its line
+abbrev pub numberOf : Event → ℕ
+numberOf Nothing = 0
+numberOf Message = 0
+numberOf (Refusal v) = v
+
+abbrev pub lineShown : ℕ → Event → ℕ → ℕ → List ℕ
+lineShown offset Nothing id n = []
+lineShown offset Message id n = eventLine offset id 0 n
+lineShown offset (Refusal v) id n = eventLine offset id v n

@@ -1,0 +1,113 @@
+-- Laws of the lines: their length, that 64 bytes hold each, and that their parts, placed one right after the other, are the line.
+use mathlib.Core.Path.{_≡_, refl, sym, ap, _∙_}
+use mathlib.Core.Bool.{Bool, true, false, cond}
+use mathlib.Core.List.{List, [], _∷_, _++_, append-assoc}
+use Prim.Native.Nat.{ℕ, _+_, _≤_, _<_}
+use native.Mathlib.Nat.{zero-add}
+use native.Mathlib.Omega.{arith}
+use borrow.Author.Tests.{ltb-false}
+use lib.Dec.{ltb}
+use lib.ListN.{length, take, length-append}
+use Rattle.octets.specs.Placing.{placed}
+use Rattle.octets.proofs.PlacingLaws.{placed-more}
+use Rattle.encoding.specs.Written.{refused, accepted}
+use Rattle.encoding.proofs.WrittenLaws.{placed-back}
+use Rattle.listing.specs.Text.{blank, newline, decimal, hexadecimal, decimals, eventLine, totalLine, writtenOf}
+use Rattle.listing.proofs.DecimalLaws.{decimal-length, decimal-short, decimals-nil, decimals-cons}
+
+-- more, right after what stands at the start
+pub after : (b p s : List ℕ) (at : ℕ) → at ≡ length p → length p + length s ≤ length b → placed (placed b 0 p) at s ≡ placed b 0 (p ++ s)
+after b p s at e h =
+    ap (λ (n : ℕ). placed (placed b 0 p) n s) (e ∙ sym (zero-add (length p))) ∙ placed-more b 0 p s (rw zero-add h)
+
+-- a line that was placed, read back
+pub read-back : (b d t : List ℕ) (n : ℕ) → n ≡ length t → d ≡ placed b 0 t → length t ≤ length b → take n d ≡ t
+read-back b d t n e f h = (λ i. take (e i) (f i)) ∙ placed-back b t h
+
+-- what is written lies within the buffer
+pub written-within : (t b : List ℕ) → writtenOf t b .length ≤ length b
+written-within t b = by (ltb (length b) (length t)) refl
+  where
+    by : (c : Bool) → ltb (length b) (length t) ≡ c → cond c (refused 13) (accepted (length t)) .length ≤ length b
+    by true e = omega arith
+    by false e = ltb-false (length b) (length t) e
+
+one-more : (n : ℕ) (ns : List ℕ) → n < 4294967296 → length (decimals (n ∷ ns)) ≤ 11 + length (decimals ns)
+one-more n ns h =
+    omega (arith, ap length (decimals-cons n ns), length-append (blank ∷ decimal n) (decimals ns), decimal-short n h)
+
+-- the parts of a line that has a first part, some numbers, and the newline
+parts : (b p : List ℕ) (ns : List ℕ) (n k : ℕ) → length p + length (decimals ns) + 1 ≤ length b → n ≡ length p → k ≡ n + length (decimals ns)
+    → placed (placed (placed b 0 p) n (decimals ns)) k (newline ∷ []) ≡ placed b 0 (p ++ (decimals ns ++ (newline ∷ [])))
+parts b p ns n k h en ek =
+    let l = length-append p (decimals ns) in
+    ap (λ (z : List ℕ). placed z k (newline ∷ [])) (after b p (decimals ns) n en (omega arith))
+    ∙ after b (p ++ decimals ns) (newline ∷ []) k (omega arith) (omega arith)
+    ∙ ap (placed b 0) (append-assoc p (decimals ns) (newline ∷ []))
+
+module _ (offset id number closed : ℕ) where
+  abbrev two : List ℕ
+  two = number ∷ closed ∷ []
+
+  pub event-length : length (eventLine offset id number closed) ≡ length (decimal offset) + 3 + length (decimals two) + 1
+  unfolding eventLine
+  event-length = simp length-append (omega arith)
+
+  pub two-short : number < 4294967296 → closed < 4294967296 → length (decimals two) ≤ 22
+  two-short hn hc = omega (arith, one-more number (closed ∷ []) hn, one-more closed [] hc, ap length decimals-nil)
+
+  -- of a byte as the number
+  pub event-longest : offset < 4294967296 → number < 256 → closed < 4294967296 → length (eventLine offset id number closed) ≤ 29
+  event-longest ho hn hc =
+      omega (
+        arith,
+        event-length,
+        decimal-short offset ho,
+        ap length (decimals-cons number (closed ∷ [])),
+        length-append (blank ∷ decimal number) (decimals (closed ∷ [])),
+        decimal-length 2 number (omega arith),
+        one-more closed [] hc,
+        ap length decimals-nil,
+      )
+
+  pub event-parts : (b : List ℕ) (n k : ℕ) → length (eventLine offset id number closed) ≤ length b → n ≡ length (decimal offset)
+      → k ≡ n + 3 + length (decimals two)
+      → placed (placed (placed (placed b 0 (decimal offset)) n (blank ∷ hexadecimal id)) (n + 3) (decimals two)) k (newline ∷ [])
+      ≡ placed b 0 (eventLine offset id number closed)
+  unfolding eventLine
+  event-parts b n k h en ek =
+      let l = event-length in
+      let q = length-append (decimal offset) (blank ∷ hexadecimal id) in
+      ap (λ (z : List ℕ). placed (placed z (n + 3) (decimals two)) k (newline ∷ []))
+      (after b (decimal offset) (blank ∷ hexadecimal id) n en (omega arith))
+      ∙ parts b (decimal offset ++ (blank ∷ hexadecimal id)) two (n + 3) k (omega arith) (omega arith) ek
+      ∙ ap (placed b 0) (append-assoc (decimal offset) (blank ∷ hexadecimal id) (decimals two ++ (newline ∷ [])))
+
+module _ (fed accepted refused outside pending : ℕ) where
+  abbrev five : List ℕ
+  five = fed ∷ accepted ∷ refused ∷ outside ∷ pending ∷ []
+
+  pub total-length : length (totalLine fed accepted refused outside pending) ≡ 5 + length (decimals five) + 1
+  unfolding totalLine
+  total-length = simp length-append (omega arith)
+
+  pub five-short : fed < 4294967296 → accepted < 4294967296 → refused < 4294967296 → outside < 4294967296 → pending < 4294967296
+      → length (decimals five) ≤ 55
+  five-short hf ha hr ho hp =
+      omega (
+        arith,
+        one-more fed (accepted ∷ refused ∷ outside ∷ pending ∷ []) hf,
+        one-more accepted (refused ∷ outside ∷ pending ∷ []) ha,
+        one-more refused (outside ∷ pending ∷ []) hr,
+        one-more outside (pending ∷ []) ho,
+        one-more pending [] hp,
+        ap length decimals-nil,
+      )
+
+  pub total-parts : (b : List ℕ) (k : ℕ) → length (totalLine fed accepted refused outside pending) ≤ length b → k ≡ 5 + length (decimals five)
+      → placed (placed (placed b 0 (116 ∷ 111 ∷ 116 ∷ 97 ∷ 108 ∷ [])) 5 (decimals five)) k (newline ∷ [])
+      ≡ placed b 0 (totalLine fed accepted refused outside pending)
+  unfolding totalLine
+  total-parts b k h ek =
+      let l = total-length in
+      parts b (116 ∷ 111 ∷ 116 ∷ 97 ∷ 108 ∷ []) five 5 k (omega arith) refl ek

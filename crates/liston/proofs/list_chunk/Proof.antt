@@ -1,0 +1,88 @@
+-- `list_chunk`: each turn takes a byte or is the last.
+use Prim.Native.Nat.{_-_, _≤_}
+use mathlib.Core.Path.{_≡_}
+use native.Mathlib.Omega.{arith}
+use lib.ListN.{length, drop, length-drop}
+use lib.Seq.{length-take-le}
+use borrow.Author.Needs.{needs}
+use Rattle.liston.proofs.list_chunk.Statement.{statement}
+use Rattle.liston.proofs.list_chunk.Tie as tie
+
+abbrev Inv-loop : tie.InvT-loop
+Inv-loop s lines₀ p₀ at₀ lines p at = (at ≤ length s) × (length lines ≡ length lines₀)
+
+abbrev μ-loop : tie.MeasureT-loop
+μ-loop s lines₀ p₀ at₀ lines p at = length s - at
+
+loop-holds : tie.Need-loop-holds Inv-loop μ-loop
+loop-holds c = search needs
+
+sub-list-part : tie.Need-sub-list-part Inv-loop μ-loop
+sub-list-part c = search needs
+
+part-list-part-start : tie.Need-part-list-part-start Inv-loop μ-loop
+part-list-part-start c = search needs
+
+part-list-part-end : tie.Need-part-list-part-end Inv-loop μ-loop
+part-list-part-end c = search needs
+
+list-part-requires : tie.Need-list-part-requires Inv-loop μ-loop
+list-part-requires c κs = search needs
+
+slice-reshare-prefix-write-all : tie.Need-slice-reshare-prefix-write-all Inv-loop μ-loop
+slice-reshare-prefix-write-all c = search needs
+
+slice-aggregate-write-all : tie.Need-slice-aggregate-write-all Inv-loop μ-loop
+slice-aggregate-write-all c = search needs
+
+write-all-requires : tie.Need-write-all-requires Inv-loop μ-loop
+write-all-requires c κs = search needs
+
+same-length : tie.Need-same-length Inv-loop μ-loop
+same-length c = search needs
+
+returns : tie.Need-returns Inv-loop μ-loop
+returns c = search needs
+
+add-at : tie.Need-add-at Inv-loop μ-loop
+add-at c =
+    let p = c .before .before .before .before .before .before .before in
+    let l = p .before .before .before .before in
+    let s = l .before .before .before .args .s .now in
+    let n = length-drop (l .loop .at) s in
+    let m = length-take-le (length s - l .loop .at) (drop (l .loop .at) s) (omega arith) in
+    omega (arith, p .list-part .ensures .1 .0, l .loop .inv .0, l .before .before .shared-slice-known .given 0)
+
+loop-less : tie.Need-loop-less Inv-loop μ-loop
+loop-less c = search needs
+
+loop-again : tie.Need-loop-again Inv-loop μ-loop
+loop-again c = search needs
+
+same-length-2 : tie.Need-same-length-2 Inv-loop μ-loop
+same-length-2 c = search needs
+
+returns-2 : tie.Need-returns-2 Inv-loop μ-loop
+returns-2 c = search needs
+
+pub list-chunk-spec : {M : Type 1} → statement M
+list-chunk-spec =
+    tie.close
+    (tie.spec
+    Inv-loop
+    μ-loop
+    loop-holds
+    sub-list-part
+    part-list-part-start
+    part-list-part-end
+    list-part-requires
+    slice-reshare-prefix-write-all
+    slice-aggregate-write-all
+    write-all-requires
+    same-length
+    returns
+    add-at
+    loop-less
+    loop-again
+    same-length-2
+    returns-2)

@@ -1,0 +1,53 @@
+// Lists the events of the bytes on standard input, whose frames have a checksum.
+use lister::Part;
+use reader::Reader;
+
+// Prints the lines of a chunk. What is left over is a byte that can't be counted.
+fn list_chunk(r: Reader, s: &[u8], lines: &mut [u8]) -> Part {
+    let mut p = Part {
+        reader: r,
+        refusal: 0,
+        taken: 0,
+        length: 0,
+    };
+    let mut at: usize = 0;
+    while at < s.len() {
+        p = lister::list_part(p.reader, &s[at..], lines);
+        let n = p.length;
+        io::write_all(1, &lines[..n]);
+        if p.taken == 0 {
+            return p;
+        }
+        at += p.taken;
+    }
+    p
+}
+
+fn print_total(r: Reader) {
+    let mut line = [0u8; 64];
+    let w = lister::list_total(r, &mut line);
+    let n = w.length;
+    io::write_all(1, &line[..n]);
+}
+
+fn main() {
+    let fresh = Reader::fresh(1);
+    let mut r = fresh.reader;
+    let mut bytes = io::large_buffer();
+    let mut lines = io::large_buffer();
+    let mut turns = u64::MAX;
+    while 0 < turns {
+        let got = libc::read(0, &mut bytes);
+        let n = io::count(got, &bytes);
+        if n == 0 {
+            break;
+        }
+        let p = list_chunk(r, &bytes[..n], &mut lines);
+        r = p.reader;
+        if p.refusal != 0 {
+            break;
+        }
+        turns -= 1;
+    }
+    print_total(r);
+}
