@@ -32,11 +32,11 @@ fn signed(label: &[u8], bits: u64, values: u64) {
 }
 
 fn signed8(label: &[u8], z: i8) {
-    signed(label, octets::int8_byte(z) as u64, 256);
+    signed(label, signed::int8_byte(z) as u64, 256);
 }
 
 fn signed16(label: &[u8], z: i16) {
-    signed(label, octets::int16_word(z) as u64, 65536);
+    signed(label, signed::int16_word(z) as u64, 65536);
 }
 
 fn yes(label: &[u8], t: bool) {
@@ -66,7 +66,7 @@ fn run_43(d: &[u8]) {
     unsigned8(b"43 low ", r.fields.low);
 }
 
-fn show_46(f: layouts::Time) {
+fn show_46(f: times::Time) {
     unsigned32(b"46 second ", f.second);
     unsigned8(b"46 day ", f.day);
     unsigned8(b"46 month ", f.month);
@@ -76,12 +76,12 @@ fn show_46(f: layouts::Time) {
 }
 
 fn run_46(d: &[u8]) {
-    let r = layouts::decode_46(d);
+    let r = times::decode_46(d);
     unsigned8(b"46 refusal ", r.refusal);
     show_46(r.fields);
 }
 
-fn show_gps_1(f: layouts::Gps) {
+fn show_gps_1(f: ephemeris::Gps) {
     unsigned8(b"49 GPS prn ", f.prn);
     unsigned32(b"49 GPS crs ", f.crs);
     unsigned32(b"49 GPS delta_n ", f.delta_n);
@@ -96,7 +96,7 @@ fn show_gps_1(f: layouts::Gps) {
     unsigned32(b"49 GPS cis ", f.cis);
 }
 
-fn show_gps_2(f: layouts::Gps) {
+fn show_gps_2(f: ephemeris::Gps) {
     unsigned(b"49 GPS i0 ", f.i0);
     unsigned32(b"49 GPS crc ", f.crc);
     unsigned(b"49 GPS omega ", f.omega);
@@ -111,7 +111,7 @@ fn show_gps_2(f: layouts::Gps) {
     unsigned16(b"49 GPS iode ", f.iode);
 }
 
-fn show_glonass_1(f: layouts::Glonass) {
+fn show_glonass_1(f: ephemeris::Glonass) {
     unsigned8(b"49 GLONASS number ", f.number);
     signed8(b"49 GLONASS carrier ", f.carrier);
     unsigned(b"49 GLONASS x ", f.x);
@@ -126,31 +126,31 @@ fn show_glonass_1(f: layouts::Glonass) {
     unsigned(b"49 GLONASS tb ", f.tb);
 }
 
-fn show_glonass_2(f: layouts::Glonass) {
+fn show_glonass_2(f: ephemeris::Glonass) {
     unsigned32(b"49 GLONASS gamma ", f.gamma);
     unsigned32(b"49 GLONASS tau ", f.tau);
     unsigned16(b"49 GLONASS age ", f.age);
 }
 
-fn show_ephemeris(r: layouts::Ephemeris) {
+fn show_ephemeris(r: ephemeris::Ephemeris) {
     match r {
-        layouts::Ephemeris::Gps(f) => {
+        ephemeris::Ephemeris::Gps(f) => {
             show_gps_1(f);
             show_gps_2(f);
         }
-        layouts::Ephemeris::Glonass(f) => {
+        ephemeris::Ephemeris::Glonass(f) => {
             show_glonass_1(f);
             show_glonass_2(f);
         }
-        layouts::Ephemeris::Refused(n) => unsigned8(b"49 refusal ", n),
+        ephemeris::Ephemeris::Refused(n) => unsigned8(b"49 refusal ", n),
     }
 }
 
 fn run_49(d: &[u8]) {
-    show_ephemeris(layouts::decode_49(d));
+    show_ephemeris(ephemeris::decode_49(d));
 }
 
-fn show_4a(f: layouts::Ionosphere) {
+fn show_4a(f: parameters::Ionosphere) {
     unsigned32(b"4A alpha0 ", f.alpha0);
     unsigned32(b"4A alpha1 ", f.alpha1);
     unsigned32(b"4A alpha2 ", f.alpha2);
@@ -163,12 +163,12 @@ fn show_4a(f: layouts::Ionosphere) {
 }
 
 fn run_4a(d: &[u8]) {
-    let r = layouts::decode_4a(d);
+    let r = parameters::decode_4a(d);
     unsigned8(b"4A refusal ", r.refusal);
     show_4a(r.fields);
 }
 
-fn show_4b(f: layouts::Scales) {
+fn show_4b(f: parameters::Scales) {
     unsigned(b"4B a0 ", f.a0);
     unsigned(b"4B a1 ", f.a1);
     unsigned32(b"4B tot ", f.tot);
@@ -184,12 +184,12 @@ fn show_4b(f: layouts::Scales) {
 }
 
 fn run_4b(d: &[u8]) {
-    let r = layouts::decode_4b(d);
+    let r = parameters::decode_4b(d);
     unsigned8(b"4B refusal ", r.refusal);
     show_4b(r.fields);
 }
 
-fn show_eb(f: layouts::GlonassTime) {
+fn show_eb(f: times::GlonassTime) {
     unsigned(b"EB tau_c ", f.tau_c);
     unsigned32(b"EB tau_gps ", f.tau_gps);
     unsigned16(b"EB na ", f.na);
@@ -202,7 +202,7 @@ fn show_eb(f: layouts::GlonassTime) {
 }
 
 fn run_eb(d: &[u8]) {
-    let r = layouts::decode_eb(d);
+    let r = times::decode_eb(d);
     unsigned8(b"EB refusal ", r.refusal);
     show_eb(r.fields);
 }

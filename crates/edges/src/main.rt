@@ -220,8 +220,8 @@ fn record(s: &[u8]) {
     let mut h = r.head;
     h.mode = s[0];
     h.place = s[1];
-    h.outside = octets::u32_at(s, 2);
-    h.fed = octets::u32_at(s, 6);
+    h.outside = numbers::u32_at(s, 2);
+    h.fed = numbers::u32_at(s, 6);
     r.head = h;
     run(r, &s[10..]);
 }

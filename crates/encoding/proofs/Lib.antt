@@ -1,2 +1,3 @@
 pub mod WrittenLaws
 pub mod AcceptedLaws
+pub mod EntryLaws

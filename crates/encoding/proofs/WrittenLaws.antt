@@ -33,6 +33,12 @@ module _ (id : ℕ) (d b : List ℕ) where
   unfolding filledOf
   filled-refused h = rw (ne-eqb (content id d) 0 h)
 
+  -- and has this refusal
+  pub refused-by : (v : ℕ) → content id d ≡ v → (v ≡ 0 → ⊥) → (writtenOf id d b ≡ refused v) × (filledOf id d b ≡ b)
+  refused-by v e n =
+      let m : content id d ≡ 0 → ⊥ = λ z. n (rw e at z) in
+      (written-refused m ∙ ap refused e, filled-refused m)
+
   -- the buffer is too short
   pub written-short : content id d ≡ 0 → length b < length d → writtenOf id d b ≡ refused 13
   unfolding writtenOf

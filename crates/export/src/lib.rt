@@ -7,8 +7,8 @@ ghost use mathlib.Core.Path.{_≡_};
 ghost use Rattle.kinds.specs.Kinds.{content};
 ghost use Rattle.line.specs.Record.{fresh};
 ghost use Rattle.writer.specs.Writing as Writing;
-ghost use Rattle.lister.specs.Posts as Listing;
-ghost use Rattle.lister.specs.Counting.{countOf};
+ghost use Rattle.whole.specs.Posts as Listing;
+ghost use Rattle.whole.specs.Counting.{countOf};
 ghost use Rattle.export.specs.Answers.{answerOf};
 
 // A length, or a refusal, as one number.
@@ -27,7 +27,7 @@ pub extern "C" fn binr_list(mode: u8, bytes: &[u8], out: &mut [u8]) -> u64
     ensures { λ r. ⌜ (r ≡ answerOf (Listing.listedOf (fresh mode) (now (bytes .entry)) (now (out .entry))))
         × (now (out .exit) ≡ Listing.filledOf (fresh mode) (now (bytes .entry)) (now (out .entry))) ⌝ }
 {
-    let w = lister::list(mode, bytes, out);
+    let w = whole::list(mode, bytes, out);
     answer(w)
 }
 
@@ -54,5 +54,5 @@ pub extern "C" fn binr_judge(id: u8, body: &[u8]) -> u8
 pub extern "C" fn binr_count(mode: u8, bytes: &[u8]) -> u64
     ensures { λ r. ⌜ r ≡ countOf (fresh mode) (now (bytes .entry)) ⌝ }
 {
-    lister::count(mode, bytes)
+    whole::count(mode, bytes)
 }

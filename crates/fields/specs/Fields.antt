@@ -6,8 +6,8 @@ use Prim.Native.Nat.{ℕ, _+_, _*_, _/_, _%_}
 use lib.Dec.{eqb, leb}
 use lib.IntN.{pos}
 use lib.ListN.{length, take}
-use Rattle.octets.specs.Signed.{int8, unsigned}
-use Rattle.ranges.specs.Ranges.{byte, antenna}
+use Rattle.signed.specs.Signed.{int8, unsigned}
+use Rattle.limits.specs.Ranges.{byte, antenna}
 use Rattle.kinds.specs.Kinds.{content}
 use Rattle.encoding.specs.declared.Written.{Written}
 use Rattle.encoding.specs.Written.{refused, writtenOf, filledOf}

@@ -1,2 +1,1 @@
-pub mod Families
 pub mod Fields

@@ -1,114 +1,10 @@
-// The short kinds of message as fields and as data. Decoding gives a refusal with blank fields, or 0 with the fields. Encoding puts
-// the data into a lent buffer, or refuses and leaves the buffer as it is.
+// 20h, 23h and 43h as fields and as data. Decoding gives a refusal with blank fields, or 0 with the fields. Encoding puts the data
+// into a lent buffer, or refuses and leaves the buffer as it is.
 ghost use mathlib.Core.Path.{_≡_};
 ghost use Prim.Native.Nat.{_≤_};
-ghost use Rattle.fields.specs.Families.{emptyKind, judgeEmpty, writeEmpty, fillEmpty};
-ghost use Rattle.fields.specs.Families.{oneByteKind, judgeOneByte, readOneByte, writeOneByte, fillOneByte};
 ghost use Rattle.fields.specs.Fields.{read20, write20, fill20, read23, write23, fill23};
 ghost use Rattle.fields.specs.Fields.{resultOf, bitOf, resultByte, read43, write43, fill43};
 use encoding::Written;
-
-// 1Bh, 1Eh, 26h, 54h: no data.
-fn empty_kind(id: u8) -> bool
-    ensures { λ r. ⌜ r ≡ emptyKind id ⌝ }
-{
-    (id == 0x1B) | (id == 0x1E) | (id == 0x26) | (id == 0x54)
-}
-
-// The refusal, or 0: there are no fields.
-pub fn decode_empty(id: u8, body: &[u8]) -> u8
-    ensures { λ r. ⌜ r ≡ judgeEmpty id (now (body .entry)) ⌝ }
-{
-    if empty_kind(id) {
-        return kinds::content(id, body);
-    }
-    10
-}
-
-// Writes no byte; the refusal, or 0, is the answer.
-pub fn encode_empty(id: u8, buf: &mut [u8]) -> Written
-    ensures { λ r. ⌜ (r ≡ writeEmpty id (now (buf .entry))) × (now (buf .exit) ≡ fillEmpty id (now (buf .entry))) ⌝ }
-{
-    if empty_kind(id) {
-        let none = [0u8; 1];
-        return encoding::deliver(id, &none[..0], buf);
-    }
-    Written {
-        refusal: 10,
-        length: 0,
-    }
-}
-
-// 21h, 24h, 27h, 2Ah, 1Fh, F4h: a byte, if the count is 1.
-pub struct OneByte {
-    pub count: usize,
-    pub value: u8,
-}
-
-pub struct OneByteRead {
-    pub refusal: u8,
-    pub fields: OneByte,
-}
-
-// The kinds of at most one byte.
-fn one_byte_kind(id: u8) -> bool
-    ensures { λ r. ⌜ r ≡ oneByteKind id ⌝ }
-{
-    (id == 0x21) | (id == 0x24) | (id == 0x27) | (id == 0x2A) | (id == 0x1F) | (id == 0xF4)
-}
-
-// The refusal of data, or 0.
-fn judge_one_byte(id: u8, body: &[u8]) -> u8
-    ensures { λ r. ⌜ r ≡ judgeOneByte id (now (body .entry)) ⌝ }
-{
-    if one_byte_kind(id) {
-        return kinds::content(id, body);
-    }
-    10
-}
-
-// The fields of a kind of one byte. Without the byte the value is 0.
-pub fn decode_one_byte(id: u8, body: &[u8]) -> OneByteRead
-    ensures { λ r. ⌜ r ≡ readOneByte id (now (body .entry)) ⌝ }
-{
-    let refusal = judge_one_byte(id, body);
-    if refusal != 0 {
-        let blank = OneByte { count: 0, value: 0 };
-        return OneByteRead {
-            refusal: refusal,
-            fields: blank,
-        };
-    }
-    let fields = OneByte {
-        count: body.len(),
-        value: octets::byte_at(body, 0),
-    };
-    OneByteRead {
-        refusal: 0,
-        fields: fields,
-    }
-}
-
-// The data of a kind of one byte. The value is ignored where the count is 0.
-pub fn encode_one_byte(id: u8, f: OneByte, buf: &mut [u8]) -> Written
-    ensures { λ r. ⌜ (r ≡ writeOneByte id f (now (buf .entry))) × (now (buf .exit) ≡ fillOneByte id f (now (buf .entry))) ⌝ }
-{
-    if !one_byte_kind(id) {
-        return Written {
-            refusal: 10,
-            length: 0,
-        };
-    }
-    let count = f.count;
-    if 1 < count {
-        return Written {
-            refusal: 11,
-            length: 0,
-        };
-    }
-    let all = [f.value];
-    encoding::deliver(id, &all[..count], buf)
-}
 
 // 20h.
 pub struct Satellite {
@@ -182,8 +78,8 @@ pub fn decode_23(body: &[u8]) -> ZoneRead
             fields: blank,
         };
     }
-    let hours = octets::int8_of(octets::byte_at(body, 0));
-    let minutes = octets::int8_of(octets::byte_at(body, 1));
+    let hours = signed::int8_of(octets::byte_at(body, 0));
+    let minutes = signed::int8_of(octets::byte_at(body, 1));
     let fields = Zone {
         count: body.len(),
         hours: hours,
@@ -206,7 +102,7 @@ pub fn encode_23(f: Zone, buf: &mut [u8]) -> Written
             length: 0,
         };
     }
-    let all = [octets::int8_byte(f.hours), octets::int8_byte(f.minutes)];
+    let all = [signed::int8_byte(f.hours), signed::int8_byte(f.minutes)];
     encoding::deliver(0x23, &all[..count], buf)
 }
 

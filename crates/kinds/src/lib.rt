@@ -84,7 +84,7 @@ fn in_range(id: u8, body: &[u8]) -> bool
         0x23 => ranges::in_23(body),
         0x43 => ranges::in_43(body),
         0x46 => ranges::in_46(body),
-        0x47 => ranges::in_47(body),
+        0x47 => once::in_47(body),
         0x49 => ranges::in_49(body),
         0xEB => ranges::in_eb(body),
         0x52 => ranges::in_52(body),

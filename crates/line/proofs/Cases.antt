@@ -2,11 +2,11 @@
 use mathlib.Core.List.{List, [], _∷_, map}
 use mathlib.Core.Path.{_≡_, refl, ap}
 use Prim.Native.Nat.{ℕ}
-use Rattle.octets.specs.Number.{numberOf, numberAt}
-use Rattle.octets.specs.Signed.{signed}
+use Rattle.numbers.specs.Number.{numberOf, numberAt}
+use Rattle.signed.specs.Signed.{signed}
 use Rattle.octets.specs.Stuffing.{stuffed}
 use Rattle.checksum.specs.Checksum.{shifted, shiftedBy, afterByte, afterBytes, checksum}
-use Rattle.ranges.specs.Ranges.{all, count}
+use Rattle.limits.specs.Ranges.{all, count}
 use Rattle.kinds.specs.Kinds.{table, rowIn, allows, chosen49, lengthOk, content}
 use Rattle.line.specs.Frame.{modeOf, classOf}
 use Rattle.line.specs.Record.{Rec}

@@ -5,4 +5,3 @@ pub mod PartLaws
 pub mod FreshLaws
 pub mod Printing
 pub mod Vectors
-pub mod CountLaws

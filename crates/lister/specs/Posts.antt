@@ -11,6 +11,7 @@ use Rattle.encoding.specs.Written as Answers
 use Rattle.line.specs.Record.{Asked, Fresh, Possible}
 use Rattle.line.specs.Record.Fresh.{made, refused}
 use Rattle.reader.specs.declared.Reader.{Reader}
+use Rattle.reader.specs.declared.Fed.{Fed}
 use Rattle.reader.specs.declared.Event.{Event}
 use Rattle.reader.specs.declared.Event.the-variants.{Nothing, Message, Refusal}
 use Rattle.reader.specs.View.{view}
@@ -21,6 +22,15 @@ use Rattle.lister.specs.Listing.{totalOf, text, piece}
 -- n bytes at the start of xs: what a caller has to know to lend them
 abbrev pub Counts : ℕ → List ℕ → Type 0
 Counts n xs = (n ≤ length xs) × (n ≡ length (take n xs))
+
+-- a call that took nothing yet
+abbrev pub begun : Reader → Fed
+begun r =
+    record {
+      reader = r;
+      answer = record { event = Nothing; id = 0; len = 0; bytes = r .bytes; closed = 0 };
+      taken = 0;
+    }
 
 -- a part of a listing: refused by 1 or 2, nothing is listed, and else a piece. Of question 3 the piece says where it stops
 abbrev pub PartPost : Reader → List ℕ → List ℕ → Part → List ℕ → Type 0
@@ -41,16 +51,6 @@ pub data Prints : Reader → List ℕ → List ℕ → Type 0 where
       → Prints r (s ++ m) (take (x .length) b′ ++ totalOf (view (x .reader)))
   part : {r : Reader} {out : List ℕ} (s m b : List ℕ) (x : Part) (b′ : List ℕ) → PartPost r s b x b′ → Counts (x .length) b′
       → Prints (x .reader) (drop (x .taken) (s ++ m)) out → Prints r (s ++ m) (take (x .length) b′ ++ out)
-
--- the listing of a slice by a fresh reader: refused as the reader is, else written whole into a buffer that has room for it
-abbrev pub listedOf : Fresh → List ℕ → List ℕ → Written
-listedOf (made r) s b = writtenOf (text r s) b
-listedOf (refused v) s b = Answers.refused v
-
--- the buffer afterwards; where there is no room, `placed` leaves it
-abbrev pub filledOf : Fresh → List ℕ → List ℕ → List ℕ
-filledOf (made r) s b = placed b 0 (text r s)
-filledOf (refused v) s b = b
 
 -- of private functions: a reader that questions 1 and 2 let pass, and the answer for a text t and so many bytes of room
 abbrev pub Good : Reader → Type 0

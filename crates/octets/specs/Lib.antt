@@ -1,4 +1,2 @@
-pub mod Number
-pub mod Signed
 pub mod Stuffing
 pub mod Placing

@@ -283,12 +283,12 @@ fn head_of(s: &[u8]) -> Head {
         id: octets::byte_at(s, 2),
         c1: octets::byte_at(s, 3),
         c2: octets::byte_at(s, 4),
-        len: octets::u32_at(s, 5) as usize,
-        accepted: octets::u32_at(s, 9),
-        refused: octets::u32_at(s, 13),
-        outside: octets::u32_at(s, 17),
-        pending: octets::u32_at(s, 21),
-        fed: octets::u32_at(s, 25),
+        len: numbers::u32_at(s, 5) as usize,
+        accepted: numbers::u32_at(s, 9),
+        refused: numbers::u32_at(s, 13),
+        outside: numbers::u32_at(s, 17),
+        pending: numbers::u32_at(s, 21),
+        fed: numbers::u32_at(s, 25),
     }
 }
 

@@ -1,5 +1,5 @@
 -- `list_part` meets its contract. The loop's invariant is `Turn`; each turn takes a byte or is the last.
-use mathlib.Core.Path.{sym, subst, subst⁻¹}
+use mathlib.Core.Path.{sym, ap, subst, subst⁻¹}
 use mathlib.Core.List.{List}
 use Prim.Native.Nat.{ℕ, _+_, _-_, _≤_, _<_}
 use native.Mathlib.Omega.{arith}
@@ -7,6 +7,7 @@ use borrow.Author.Needs.{needs}
 use lib.ListN.{length, drop, length-drop}
 use lib.Seq.{length-take-le}
 use Rattle.reader.specs.declared.Reader.{Reader}
+use Rattle.reader.specs.declared.Fed.{Fed}
 use Rattle.reader.specs.Posts.{FeedPost}
 use Rattle.lister.specs.Listing.{longest}
 use Rattle.lister.specs.Posts.{PartPost}
@@ -94,7 +95,7 @@ returns c =
     let at = l .loop .at in
     let to = l .loop .to in (
       subst (λ (g : Reader). PartPost g (x .s .now) (x .buf .now) (record { reader = f .reader; refusal = c .number .result; taken = at; length = to }) (l .loop .buf))
-          (b .begin .ensures)
+          (ap (λ (z : Fed). z .reader) (b .begin .ensures))
           (subst⁻¹
           (λ (v : ℕ). PartPost (b .begin .result .reader) (x .s .now) (x .buf .now) (record { reader = f .reader; refusal = v; taken = at; length = to }) (l .loop .buf))
           (c .number .ensures)

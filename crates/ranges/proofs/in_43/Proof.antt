@@ -1,6 +1,6 @@
 -- `in_43` meets its contract: each field is what its reader ensures.
 use borrow.Author.Needs.{needs}
-use Rattle.ranges.specs.Ranges.{all}
+use Rattle.limits.specs.Ranges.{all}
 use Rattle.ranges.proofs.in_43.Statement.{statement}
 use Rattle.ranges.proofs.in_43.Tie as tie
 

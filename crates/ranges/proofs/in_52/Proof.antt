@@ -9,8 +9,8 @@ use borrow.Author.Needs.{needs}
 use borrow.Author.Tests.{not-true, not-false}
 use lib.ListN.{length, take, drop, length-drop}
 use lib.Seq.{take-all}
-use Rattle.ranges.specs.Ranges.{entry}
-use Rattle.ranges.proofs.CountLaws.{all-of, all-fails}
+use Rattle.limits.specs.Ranges.{entry}
+use Rattle.limits.proofs.CountLaws.{all-of, all-fails}
 use Rattle.ranges.proofs.in_52.Statement.{statement}
 use Rattle.ranges.proofs.in_52.Tie as tie
 

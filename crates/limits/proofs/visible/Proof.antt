@@ -1,0 +1,13 @@
+-- `visible` meets its contract: by what `satellite` ensures.
+use borrow.Author.Needs.{needs}
+use Rattle.limits.proofs.visible.Statement.{statement}
+use Rattle.limits.proofs.visible.Tie as tie
+
+satellite-requires : tie.Need-satellite-requires
+satellite-requires c κs = search needs
+
+returns : tie.Need-returns
+returns c = rw (c .satellite .ensures)
+
+pub visible-spec : {M : Type 1} → statement M
+visible-spec = tie.close (tie.spec satellite-requires returns)

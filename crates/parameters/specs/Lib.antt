@@ -1,0 +1,2 @@
+pub mod Ionosphere
+pub mod Scales

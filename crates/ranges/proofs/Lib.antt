@@ -1,3 +1,0 @@
-pub mod CountLaws
-pub mod BitLaws
-pub mod OnceLaws

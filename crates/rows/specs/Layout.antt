@@ -1,0 +1,110 @@
+-- What the types of the sources' tables mean, read at an offset and written as a row. FP32 and FP64 are kept as their bits.
+use mathlib.Core.Bool.{Bool, true, cond, _&&_}
+use mathlib.Core.List.{List, [], _∷_, _++_}
+use Prim.Native.Nat.{ℕ, _+_, _*_, _/_, _^_, _<_}
+use lib.Dec.{eqb, leb}
+use lib.IntN.{ℤ}
+use lib.ListN.{length}
+use lib.Signed.{mag}
+use Rattle.numbers.specs.Number.{numberAt, bytesOf}
+use Rattle.signed.specs.Signed.{int8, int16, unsigned}
+
+abbrev pub int8uAt : List ℕ → ℕ → ℕ
+int8uAt d at = numberAt d at 1
+
+abbrev pub int8sAt : List ℕ → ℕ → ℤ
+int8sAt d at = int8 (numberAt d at 1)
+
+abbrev pub int16uAt : List ℕ → ℕ → ℕ
+int16uAt d at = numberAt d at 2
+
+abbrev pub int16sAt : List ℕ → ℕ → ℤ
+int16sAt d at = int16 (numberAt d at 2)
+
+abbrev pub int32uAt : List ℕ → ℕ → ℕ
+int32uAt d at = numberAt d at 4
+
+abbrev pub fp32At : List ℕ → ℕ → ℕ
+fp32At d at = numberAt d at 4
+
+abbrev pub fp64At : List ℕ → ℕ → ℕ
+fp64At d at = numberAt d at 8
+
+-- a row: a type, by how many bytes it takes, and a value of it; the type may be signed
+pub data Row : Type 0 where
+  natural : ℕ → ℕ → Row
+  integer : ℕ → ℤ → Row
+
+abbrev pub INT8U : ℕ → Row
+INT8U x = natural 1 x
+
+abbrev pub INT8S : ℤ → Row
+INT8S z = integer 1 z
+
+abbrev pub INT16U : ℕ → Row
+INT16U x = natural 2 x
+
+abbrev pub INT16S : ℤ → Row
+INT16S z = integer 2 z
+
+abbrev pub INT32U : ℕ → Row
+INT32U x = natural 4 x
+
+abbrev pub FP32 : ℕ → Row
+FP32 x = natural 4 x
+
+abbrev pub FP64 : ℕ → Row
+FP64 x = natural 8 x
+
+abbrev pub width : Row → ℕ
+width (natural n x) = n
+width (integer n z) = n
+
+abbrev pub bits : Row → ℕ
+bits (natural n x) = x
+bits (integer n z) = unsigned (8 * n) z
+
+-- the type holds the value
+abbrev pub Held : Row → Type 0
+Held (natural n x) = x < 256 ^ n
+Held (integer n z) = mag z < 256 ^ n / 2
+
+abbrev pub AllHeld : List Row → Type 0
+AllHeld [] = Unit {0}
+AllHeld (r ∷ rs) = Held r × AllHeld rs
+
+-- the bytes of the rows, one row after the other
+unfoldable pub joined : List Row → List ℕ
+joined [] = []
+joined (r ∷ rs) = bytesOf (width r) (bits r) ++ joined rs
+
+-- the same from widths and words apart, as the code has them
+abbrev pub words : List Row → List ℕ
+words [] = []
+words (r ∷ rs) = bits r ∷ words rs
+
+unfoldable pub laid : List ℕ → List ℕ → List ℕ
+laid [] xs = []
+laid (n ∷ ns) [] = []
+laid (n ∷ ns) (x ∷ xs) = bytesOf n x ++ laid ns xs
+
+unfoldable pub total : List ℕ → ℕ
+total [] = 0
+total (n ∷ ns) = n + total ns
+
+-- no width is above that of a u64
+unfoldable pub short : List ℕ → Bool
+short [] = true
+short (n ∷ ns) = leb n 8 && short ns
+
+-- such widths, which add up to the room
+abbrev pub exact : List ℕ → ℕ → Bool
+exact ns room = short ns && eqb room (total ns)
+
+-- there is a word for each width, and the widths are those of the whole buffer
+unfoldable pub packs : List ℕ → List ℕ → List ℕ → Bool
+packs ns xs out = leb (length ns) (length xs) && exact ns (length out)
+
+-- the buffer afterwards: the words where they pack, else as it was
+unfoldable pub packed : List ℕ → List ℕ → List ℕ → List ℕ
+packed ns xs out = cond (packs ns xs out) (laid ns xs) out

@@ -1,0 +1,27 @@
+-- `count` meets its contract: nothing where the fresh reader is refused, else the events of the slice.
+use borrow.Author.Needs.{needs}
+use Rattle.lister.proofs.FreshLaws.{fresh-refused, fresh-good}
+use Rattle.whole.proofs.count.Statement.{statement}
+use Rattle.whole.proofs.count.Tie as tie
+
+fresh-requires : tie.Need-fresh-requires
+fresh-requires c κs = search needs
+
+returns : tie.Need-returns
+returns c =
+    let f = c .before .before in
+    rw (fresh-refused _ (f .fresh .result) (f .fresh .ensures) (c .if1 .taken) .0)
+
+count-from-requires : tie.Need-count-from-requires
+count-from-requires c κs =
+    let f = c .before .before .before in
+    fresh-good _ (f .fresh .result) (f .fresh .ensures) (c .before .if1 .left) .1
+
+returns-2 : tie.Need-returns-2
+returns-2 c =
+    let i = c .before .before in
+    let f = i .before .before in
+    rw (fresh-good _ (f .fresh .result) (f .fresh .ensures) (i .if1 .left) .0) (c .count-from .ensures)
+
+pub count-spec : {M : Type 1} → statement M
+count-spec = tie.close (tie.spec fresh-requires returns count-from-requires returns-2)
