@@ -24,7 +24,7 @@ use Rattle.reader.specs.declared.Act.{Act}
 use Rattle.reader.specs.declared.Act.the-variants.{Quiet, Refused, Reopened, Ended}
 use Rattle.reader.specs.declared.Moved.{Moved}
 use Rattle.reader.specs.declared.Closed.{Closed}
-use Rattle.reader.specs.declared.Event.the-variants.{Message, Refusal}
+use Rattle.reader.specs.declared.Event.the-variants.{Nothing, Message, Refusal}
 
 -- a Bool that says whether P holds
 abbrev pub Decides : Type 0 → Bool → Type 0
@@ -257,6 +257,23 @@ headWith h m at p id len pending =
       outside = m .outside;
       pending = pending;
       fed = h .fed + at;
+    }
+
+-- nothing is closed
+abbrev pub resumed : Head → Moving → ℕ → Closed
+resumed h m at =
+    record { head = headWith h m at (m .place) (m .id) (m .len) (m .pending); event = Nothing; id = 0; len = 0; closed = 0; keep = false }
+
+-- a frame is refused but for its last two bytes, which open another
+abbrev pub reopenedBy : Head → Moving → ℕ → ℕ → ℕ → Closed
+reopenedBy h m b at v =
+    record {
+      head = record { mode = h .mode; place = 2; id = b; c1 = m .c1; c2 = m .c2; len = 0; accepted = h .accepted; refused = h .refused + (m .pending - 2); outside = m .outside; pending = 2; fed = h .fed + at };
+      event = Refusal v;
+      id = m .id;
+      len = 0;
+      closed = m .pending - 2;
+      keep = false;
     }
 
 -- a frame that ended, by its verdict

@@ -1,5 +1,5 @@
 // The reader: a record by value, a fresh one, the single step and the slice call.
-ghost use mathlib.Core.Bool.{true};
+ghost use mathlib.Core.Bool.{true, false};
 ghost use mathlib.Core.Option.{Option};
 ghost use mathlib.Core.List.{List};
 ghost use mathlib.Core.Path.{_≡_};
@@ -11,7 +11,7 @@ ghost use Rattle.line.specs.Record.{limit, Possible, walk, Kept, Fit};
 ghost use Rattle.line.specs.Record.Kept.{k43, k46, kEB};
 ghost use Rattle.reader.specs.View.{view, latestOf, partsOf, shown};
 ghost use Rattle.reader.specs.Posts.{FreshPost, StepPost, FeedPost, blank as blankOf, Refuses, Reads};
-ghost use Rattle.reader.specs.Moving.{Decides, Usable, Opened, LatestOk, Plausible, Held, Skips, Copied, Fills, Fits, Pends, Sound, Busy, Steps, Goes, Ran, Finishes, went, passed, opened, shut as shutOf, turned, baseOf, startOf, storedBy, headWith, concluded};
+ghost use Rattle.reader.specs.Moving.{Decides, Usable, Opened, LatestOk, Plausible, Held, Skips, Copied, Fills, Fits, Pends, Sound, Busy, Steps, Goes, Ran, Finishes, went, passed, opened, shut as shutOf, turned, baseOf, startOf, storedBy, headWith, resumed, reopenedBy, concludedBy, concluded};
 
 // The numbers of the record. Mode and place are numbers, so that a wrong one can be refused.
 pub struct Head {
@@ -566,23 +566,28 @@ fn start(h: Head) -> Moving
     }
 }
 
-// A frame that ended is a message, or refused by v.
-fn conclude(h: Head, m: Moving, at: usize, v: u8) -> Closed
-    requires { ⌜ (h .fed + at ≤ limit) × (h .accepted + m .pending ≤ limit) × (h .refused + m .pending ≤ limit) ⌝ }
-    ensures { λ r. ⌜ r ≡ concluded h m at v ⌝ }
+// Nothing is closed: the numbers stay as they have moved.
+fn resume(h: Head, m: Moving, at: usize) -> Closed
+    requires { ⌜ h .fed + at ≤ limit ⌝ }
+    ensures { λ r. ⌜ r ≡ resumed h m at ⌝ }
+{
+    let g = put(h, m, at, m.place, m.id, m.len, m.pending);
+    Closed {
+        head: g,
+        event: Event::Nothing,
+        id: 0,
+        len: 0,
+        closed: 0,
+        keep: false,
+    }
+}
+
+// A frame is refused by v, whole.
+fn dismiss(h: Head, m: Moving, at: usize, v: u8) -> Closed
+    requires { ⌜ (h .fed + at ≤ limit) × (h .refused + m .pending ≤ limit) ⌝ }
+    ensures { λ r. ⌜ r ≡ concludedBy false h m at v ⌝ }
 {
     let mut g = put(h, m, at, 0, m.id, m.len, 0);
-    if v == 0 {
-        g.accepted = h.accepted + m.pending;
-        return Closed {
-            head: g,
-            event: Event::Message,
-            id: m.id,
-            len: m.len,
-            closed: m.pending,
-            keep: true,
-        };
-    }
     g.refused = h.refused + m.pending;
     Closed {
         head: g,
@@ -591,6 +596,43 @@ fn conclude(h: Head, m: Moving, at: usize, v: u8) -> Closed
         len: 0,
         closed: m.pending,
         keep: false,
+    }
+}
+
+// A frame is refused by v but for its last two bytes, which open another with identifier b.
+fn reopen(h: Head, m: Moving, b: u8, at: usize, v: u8) -> Closed
+    requires { ⌜ (h .fed + at ≤ limit) × (h .refused + m .pending ≤ limit) × (2 ≤ m .pending) ⌝ }
+    ensures { λ r. ⌜ r ≡ reopenedBy h m b at v ⌝ }
+{
+    let mut g = put(h, m, at, 2, b, 0, 2);
+    g.refused = h.refused + (m.pending - 2);
+    Closed {
+        head: g,
+        event: Event::Refusal(v),
+        id: m.id,
+        len: 0,
+        closed: m.pending - 2,
+        keep: false,
+    }
+}
+
+// A frame that ended is a message, or refused by v.
+fn conclude(h: Head, m: Moving, at: usize, v: u8) -> Closed
+    requires { ⌜ (h .fed + at ≤ limit) × (h .accepted + m .pending ≤ limit) × (h .refused + m .pending ≤ limit) ⌝ }
+    ensures { λ r. ⌜ r ≡ concluded h m at v ⌝ }
+{
+    if v != 0 {
+        return dismiss(h, m, at, v);
+    }
+    let mut g = put(h, m, at, 0, m.id, m.len, 0);
+    g.accepted = h.accepted + m.pending;
+    Closed {
+        head: g,
+        event: Event::Message,
+        id: m.id,
+        len: m.len,
+        closed: m.pending,
+        keep: true,
     }
 }
 
@@ -605,41 +647,9 @@ fn finish(h: Head, t: Moved, d: &[u8]) -> Closed
     let at = t.at;
     let act = t.act;
     match act {
-        Act::Quiet => {
-            let g = put(h, m, at, m.place, m.id, m.len, m.pending);
-            Closed {
-                head: g,
-                event: Event::Nothing,
-                id: 0,
-                len: 0,
-                closed: 0,
-                keep: false,
-            }
-        }
-        Act::Refused(v) => {
-            let mut g = put(h, m, at, 0, m.id, m.len, 0);
-            g.refused = h.refused + m.pending;
-            Closed {
-                head: g,
-                event: Event::Refusal(v),
-                id: m.id,
-                len: 0,
-                closed: m.pending,
-                keep: false,
-            }
-        }
-        Act::Reopened(v) => {
-            let mut g = put(h, m, at, 2, t.last, 0, 2);
-            g.refused = h.refused + (m.pending - 2);
-            Closed {
-                head: g,
-                event: Event::Refusal(v),
-                id: m.id,
-                len: 0,
-                closed: m.pending - 2,
-                keep: false,
-            }
-        }
+        Act::Quiet => resume(h, m, at),
+        Act::Refused(v) => dismiss(h, m, at, v),
+        Act::Reopened(v) => reopen(h, m, t.last, at, v),
         Act::Ended => {
             let v = judge(h.mode, m.id, d, m.len, m.c1, m.c2);
             conclude(h, m, at, v)
@@ -912,24 +922,6 @@ impl Reader {
         let g = o.head;
         r.head = g;
         let e = o.event;
-        if o.keep {
-            let old = r.latest;
-            let l = store(old, o.id, &r.bytes, o.len);
-            r.latest = l;
-            let bytes = r.bytes;
-            let a = Answer {
-                event: e,
-                id: o.id,
-                len: o.len,
-                bytes: bytes,
-                closed: o.closed,
-            };
-            return Fed {
-                reader: r,
-                answer: a,
-                taken: t.at,
-            };
-        }
         let bytes = r.bytes;
         let a = Answer {
             event: e,
@@ -938,6 +930,16 @@ impl Reader {
             bytes: bytes,
             closed: o.closed,
         };
+        if o.keep {
+            let old = r.latest;
+            let l = store(old, o.id, &r.bytes, o.len);
+            r.latest = l;
+            return Fed {
+                reader: r,
+                answer: a,
+                taken: t.at,
+            };
+        }
         Fed {
             reader: r,
             answer: a,

@@ -27,37 +27,23 @@ as-act h t a l {x} {c} q f =
 enum-told : tie.Need-enum-told
 enum-told c = search needs
 
-put-requires : tie.Need-put-requires
-put-requires c κs = search needs
+resume-requires : tie.Need-resume-requires
+resume-requires c κs = search needs
 
 enum-known-act : tie.Need-enum-known-act
 enum-known-act c = search needs
 
-put-requires-2 : tie.Need-put-requires-2
-put-requires-2 c κs = search needs
-
-add-g : tie.Need-add-g
-add-g c = search needs
+dismiss-requires : tie.Need-dismiss-requires
+dismiss-requires c κs = search needs
 
 enum-known-act-2 : tie.Need-enum-known-act-2
 enum-known-act-2 c = search needs
 
-put-requires-3 : tie.Need-put-requires-3
-put-requires-3 c κs = search needs
-
-sub-g : tie.Need-sub-g
-sub-g c =
-    let e = c .before .before .before .before .before .before .before in
-    let h : 2 ≤ e .args .t .now .pending
-    = subst (λ (y : Act). Busy y (e .args .t .now)) (c .before .before .before .act2 .given .1) (e .pre .1 .1) in
-    omega (arith, h)
-
-add-g-2 : tie.Need-add-g-2
-add-g-2 c = search needs
-
-sub-t16 : tie.Need-sub-t16
-sub-t16 c =
-    subst (λ (y : Act). Busy y (c .before .before .before .before .before .before .before .before .before .args .t .now)) (c .before .before .before .before .before .act2 .given .1) (c .before .before .before .before .before .before .before .before .before .pre .1 .1)
+reopen-requires : tie.Need-reopen-requires
+reopen-requires c κs =
+    let e = c .before .before .before .before .before in
+    let h : 2 ≤ e .args .t .now .pending = subst (λ (y : Act). Busy y (e .args .t .now)) (c .before .act2 .given .1) (e .pre .1 .1) in
+    (omega (arith, e .pre), omega (arith, e .pre), h)
 
 enum-told-2 : tie.Need-enum-told-2
 enum-told-2 c = search needs
@@ -71,49 +57,45 @@ conclude-requires c κs = search needs
 returns : tie.Need-returns
 unfolding turned
 returns c l =
-    let x = c .before .before .before .before .before .args in
-    let p = c .before .before .before .before .before .pre in
+    let e = c .before .before .before .before .before in
+    let x = e .args in
     as-act (x .h) (x .t) (now (x .d)) l (c .before .enum-told .given .1)
-    (rw (c .put .ensures) (finish-quiet (x .h) (x .t .now) (x .t .at) (now (x .d)) l (p .1 .0 .1) (p .1 .0 .2)))
+    (rw (c .resume .ensures) (finish-quiet (x .h) (x .t .now) (x .t .at) (now (x .d)) l (e .pre .1 .0 .1) (e .pre .1 .0 .2)))
 
 returns-2 : tie.Need-returns-2
 unfolding turned
 returns-2 c l =
-    let x = c .before .before .before .before .before .before .before .before .args in
-    let p = c .before .before .before .before .before .before .before .before .pre in
-    as-act (x .h) (x .t) (now (x .d)) l (c .before .before .before .before .act .given .1)
-    (rw (c .before .before .put2 .ensures) (finish-refused (x .h) (x .t .now) (x .t .at) (now (x .d)) l (p .1 .0 .1) (p .1 .0 .2) _))
+    let e = c .before .before .before .before .before .before in
+    let x = e .args in
+    as-act (x .h) (x .t) (now (x .d)) l (c .before .before .act .given .1)
+    (rw (c .dismiss .ensures) (finish-refused (x .h) (x .t .now) (x .t .at) (now (x .d)) l (e .pre .1 .0 .1) (e .pre .1 .0 .2) _))
 
 returns-3 : tie.Need-returns-3
 unfolding turned
 returns-3 c l =
-    let x = c .before .before .before .before .before .before .before .before .before .args in
-    let p = c .before .before .before .before .before .before .before .before .before .pre in
-    as-act (x .h) (x .t) (now (x .d)) l (c .before .before .before .before .before .act2 .given .1)
-    (rw (c .before .before .before .put3 .ensures) (finish-reopened (x .h) (x .t .now) (x .t .at) (now (x .d)) l (p .1 .0 .1) (p .1 .0 .2) _ (x .t .last)))
+    let e = c .before .before .before .before .before .before in
+    let x = e .args in
+    as-act (x .h) (x .t) (now (x .d)) l (c .before .before .act2 .given .1)
+    (rw (c .reopen .ensures) (finish-reopened (x .h) (x .t .now) (x .t .at) (now (x .d)) l (e .pre .1 .0 .1) (e .pre .1 .0 .2) _ (x .t .last)))
 
 returns-4 : tie.Need-returns-4
 unfolding turned
 returns-4 c l =
-    let x = c .before .before .before .before .before .before .args in
-    let p = c .before .before .before .before .before .before .pre in
+    let e = c .before .before .before .before .before .before in
+    let x = e .args in
     as-act (x .h) (x .t) (now (x .d)) l (c .before .before .enum-told2 .given .1)
-    (rw (c .conclude .ensures) (finish-ended (x .h) (x .t .now) (x .t .at) (now (x .d)) l (p .1 .0 .1) (p .1 .0 .2) _ (c .before .judge .ensures)))
+    (rw (c .conclude .ensures) (finish-ended (x .h) (x .t .now) (x .t .at) (now (x .d)) l (e .pre .1 .0 .1) (e .pre .1 .0 .2) _ (c .before .judge .ensures)))
 
 pub finish-spec : {M : Type 1} → statement M
 finish-spec =
     tie.close
     (tie.spec
     enum-told
-    put-requires
+    resume-requires
     enum-known-act
-    put-requires-2
-    add-g
+    dismiss-requires
     enum-known-act-2
-    put-requires-3
-    sub-g
-    add-g-2
-    sub-t16
+    reopen-requires
     enum-told-2
     judge-requires
     conclude-requires

@@ -55,10 +55,10 @@ finish-requires c κs =
 
 store-requires : tie.Need-store-requires
 store-requires c κs =
-    let y = c .before .before .before .before .before .before .before .before .before .before in
+    let y = c .before .before .before .before .before .before .before .before .before .before .before in
     let j = y .before .before .before .before .before .before in
     let r = j .args .self in
-    let k = c .before .before .before .before .before .before .finish .ensures (latestOf (r .latest)) in
+    let k = c .before .before .before .before .before .before .before .finish .ensures (latestOf (r .latest)) in
     (omega (arith, k .short, ran y .whole), k .good (c .before .before .before .before .if1 .taken))
 
 returns : tie.Need-returns
@@ -69,9 +69,9 @@ returns c =
     let n = y .before .before .before .span in
     let o = c .before .before .before .before .before .before .before .before .finish in
     let k = o .ensures (latestOf (r .latest)) in
-    reads-of r (whole j) (j .pre .1) (now (j .args .s)) (n .result) (y .run .result) (y .run .last .1 .1 .0) (o .result) (c .before .store .result) (ran y)
+    reads-of r (whole j) (j .pre .1) (now (j .args .s)) (n .result) (y .run .result) (y .run .last .1 .1 .0) (o .result) (c .store .result) (ran y)
     (n .ensures .1) (n .ensures .2) k
-    (λ i. c .before .store .ensures i ∙ ap (λ t. storedBy t (o .result .id) (take (o .result .len) (y .run .last .1 .1 .0)) (latestOf (r .latest)) i) (sym (c .before .before .before .before .before .before .if1 .taken)))
+    (λ i. c .store .ensures i ∙ ap (λ t. storedBy t (o .result .id) (take (o .result .len) (y .run .last .1 .1 .0)) (latestOf (r .latest)) i) (sym (c .before .before .before .before .before .if1 .taken)))
 
 returns-2 : tie.Need-returns-2
 returns-2 c =
@@ -83,7 +83,7 @@ returns-2 c =
     let k = o .ensures (latestOf (r .latest)) in
     reads-of r (whole j) (j .pre .1) (now (j .args .s)) (n .result) (y .run .result) (y .run .last .1 .1 .0) (o .result) (r .latest) (ran y)
     (n .ensures .1) (n .ensures .2) k
-    (λ i. ap (λ t. storedBy t (o .result .id) (take (o .result .len) (y .run .last .1 .1 .0)) (latestOf (r .latest)) i) (sym (c .before .if1 .left)))
+    (λ i. ap (λ t. storedBy t (o .result .id) (take (o .result .len) (y .run .last .1 .1 .0)) (latestOf (r .latest)) i) (sym (c .if1 .left)))
 
 pub read-spec : {M : Type 1} → statement M
 read-spec =
