@@ -1,5 +1,5 @@
-//! Tells the linker where libexport.a and libtiming.a are: in the folder that BINR_LIB_DIR names, or by
-//! default in ../target/staticlib relative to this package.
+//! Tells the linker where libexport.a is: in the folder that BINR_LIB_DIR names, or by default in
+//! ../target/staticlib relative to this package.
 
 use std::env;
 use std::path::{Path, PathBuf};
@@ -18,18 +18,16 @@ fn main() {
         }
     };
     println!("cargo:rustc-link-search=native={}", folder.display());
-    for library in ["export", "timing"] {
-        let archive = folder.join(format!("lib{library}.a"));
-        if !archive.is_file() {
-            println!(
-                "cargo:warning={} is missing: build it, or set BINR_LIB_DIR",
-                archive.display()
-            );
-        }
-        // A rebuilt library must be linked again.
-        println!("cargo:rerun-if-changed={}", archive.display());
-        // Not bundled into this package's own library: link-time optimisation would then take
-        // the archive's objects for its own.
-        println!("cargo:rustc-link-lib=static:-bundle={library}");
+    let archive = folder.join("libexport.a");
+    if !archive.is_file() {
+        println!(
+            "cargo:warning={} is missing: build it, or set BINR_LIB_DIR",
+            archive.display()
+        );
     }
+    // A rebuilt library must be linked again.
+    println!("cargo:rerun-if-changed={}", archive.display());
+    // Not bundled into this package's own library: link-time optimisation would then take the
+    // archive's objects for its own.
+    println!("cargo:rustc-link-lib=static:-bundle=export");
 }

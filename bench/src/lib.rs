@@ -7,8 +7,8 @@
 //! cargo run --release --features library --bin benchmark [bytes] [repetitions]
 //! ```
 //!
-//! The two programs link libexport.a and libtiming.a from the folder that BINR_LIB_DIR names,
-//! by default ../target/staticlib relative to this package.
+//! The two programs link libexport.a from the folder that BINR_LIB_DIR names, by default
+//! ../target/staticlib relative to this package.
 
 pub mod generator;
 #[cfg(feature = "library")]

@@ -22,7 +22,6 @@ mod export {
         ) -> i64;
         pub fn binr_judge(id: u8, body: *const u8, len: usize) -> u8;
         pub fn binr_count(mode: u8, bytes: *const u8, len: usize) -> u64;
-        pub fn binr_time(mode: u8, bytes: *const u8, len: usize) -> u64;
     }
 }
 
@@ -86,10 +85,4 @@ pub fn judge(id: u8, body: &[u8]) -> u8 {
 pub fn count(mode: u8, bytes: &[u8]) -> u64 {
     // SAFETY: the region is valid for its length during the call.
     unsafe { export::binr_count(mode, bytes.as_ptr(), bytes.len()) }
-}
-
-/// The same number, from libtiming.a, where the slice call has one caller.
-pub fn time(mode: u8, bytes: &[u8]) -> u64 {
-    // SAFETY: the region is valid for its length during the call.
-    unsafe { export::binr_time(mode, bytes.as_ptr(), bytes.len()) }
 }

@@ -1,10 +1,7 @@
 //! Nanoseconds per byte of the library's slice call beside those of the reference's `feed`.
 //!
 //! Each side is called once per repetition, and counts the events of the whole input by
-//! feeding it to a fresh reader, slice after slice, up to each event. The library's side is
-//! twice there: with the slice call in one place of the program (libtiming.a), and with the
-//! slice call shared by several functions (libexport.a), where the compiler does not take it
-//! in and the record is copied more often.
+//! feeding it to a fresh reader, slice after slice, up to each event.
 //!
 //! Usage: benchmark [bytes per input] [repetitions]
 
@@ -31,8 +28,8 @@ fn main() {
     ];
     println!("best of {repetitions} interleaved repetitions, ns per byte");
     println!(
-        "{:<26} {:>4} {:>8} {:>9} {:>9} {:>6} {:>8} {:>6}",
-        "input", "mode", "events", "reference", "one place", "ratio", "shared", "ratio"
+        "{:<26} {:>4} {:>8} {:>9} {:>8} {:>6}",
+        "input", "mode", "events", "reference", "library", "ratio"
     );
     for (name, fill) in inputs {
         for mode in [0, 1] {
@@ -42,17 +39,15 @@ fn main() {
                 fill(&mut random, mode, &mut input);
             }
             let events = reference::count(mode, &input);
-            for counted in [library::time(mode, &input), library::count(mode, &input)] {
-                if counted != events {
-                    eprintln!("{name}, mode {mode}: the library counts {counted} events, not {events}");
-                    exit(1);
-                }
+            let counted = library::count(mode, &input);
+            if counted != events {
+                eprintln!("{name}, mode {mode}: the library counts {counted} events, not {events}");
+                exit(1);
             }
-            let [reference, alone, shared] = compare(mode, &input, repetitions);
+            let [reference, library] = compare(mode, &input, repetitions);
             println!(
-                "{name:<26} {mode:>4} {events:>8} {reference:>9.3} {alone:>9.3} {:>6.2} {shared:>8.3} {:>6.2}",
-                alone / reference,
-                shared / reference
+                "{name:<26} {mode:>4} {events:>8} {reference:>9.3} {library:>8.3} {:>6.2}",
+                library / reference
             );
         }
     }
@@ -72,13 +67,13 @@ fn number(argument: Option<String>, default: usize) -> usize {
 }
 
 /// The best time of each side. The sides take turns, and take turns at going first, so that
-/// whatever else the machine does falls on all.
-fn compare(mode: u8, input: &[u8], repetitions: usize) -> [f64; 3] {
-    let sides: [fn(u8, &[u8]) -> u64; 3] = [reference::count, library::time, library::count];
-    let mut best = [f64::MAX; 3];
+/// whatever else the machine does falls on both.
+fn compare(mode: u8, input: &[u8], repetitions: usize) -> [f64; 2] {
+    let sides: [fn(u8, &[u8]) -> u64; 2] = [reference::count, library::count];
+    let mut best = [f64::MAX; 2];
     for repetition in 0..repetitions {
-        for turn in 0..3 {
-            let side = (repetition + turn) % 3;
+        for turn in 0..2 {
+            let side = (repetition + turn) % 2;
             best[side] = best[side].min(time(sides[side], mode, input));
         }
     }

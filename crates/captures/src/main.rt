@@ -1,11 +1,11 @@
 // Reads captures as hexadecimal text, a line each (mode, then the bytes). Of each it prints the events of single steps (offset,
 // identifier, number, bytes closed, a message's data) and the record they leave. Then it feeds the capture as two slices, cut at
 // every place, and prints how many cuts there are, how many gave another text, and the text of the cut in the middle.
-use reader::Answer;
-use reader::Event;
-use reader::Head;
-use reader::Latest;
-use reader::Reader;
+use latest::Latest;
+use record::Answer;
+use record::Event;
+use record::Head;
+use record::Reader;
 ghost use mathlib.Core.Path.{_≡_};
 ghost use lib.ListN.{length};
 ghost use Prim.Native.Nat.{_≤_, _<_};
@@ -215,7 +215,7 @@ fn by_steps(mode: u8, s: &[u8], log: &mut [u8]) -> usize {
     let mut at: usize = 0;
     let mut i: usize = 0;
     while i < s.len() {
-        let t = r.step(s[i]);
+        let t = calls::step(r, s[i]);
         let a = t.answer;
         at = put_event(log, at, i, a);
         r = t.reader;
@@ -232,7 +232,7 @@ fn by_slice(r0: Reader, s: &[u8], from: usize, end: usize, log: &mut [u8], at0: 
     let mut at = at0;
     let mut done = from;
     while done <= end {
-        let f = r.feed(&s[done..end]);
+        let f = reader::feed(r, &s[done..end]);
         let n = f.taken;
         r = f.reader;
         if n == 0 {

@@ -44,21 +44,21 @@ fn yes(label: &[u8], t: bool) {
 }
 
 fn run_20(d: &[u8]) {
-    let r = fields::decode_20(d);
+    let r = fields_20::decode_20(d);
     unsigned8(b"20 refusal ", r.refusal);
     unsigned8(b"20 system ", r.fields.system);
     unsigned8(b"20 number ", r.fields.number);
 }
 
 fn run_23(d: &[u8]) {
-    let r = fields::decode_23(d);
+    let r = fields_23::decode_23(d);
     unsigned8(b"23 refusal ", r.refusal);
     signed8(b"23 hours ", r.fields.hours);
     signed8(b"23 minutes ", r.fields.minutes);
 }
 
 fn run_43(d: &[u8]) {
-    let r = fields::decode_43(d);
+    let r = fields_43::decode_43(d);
     unsigned8(b"43 refusal ", r.refusal);
     unsigned8(b"43 antenna ", r.fields.antenna);
     yes(b"43 glonass ", r.fields.glonass);
@@ -66,7 +66,7 @@ fn run_43(d: &[u8]) {
     unsigned8(b"43 low ", r.fields.low);
 }
 
-fn show_46(f: times::Time) {
+fn show_46(f: fields_46::Time) {
     unsigned32(b"46 second ", f.second);
     unsigned8(b"46 day ", f.day);
     unsigned8(b"46 month ", f.month);
@@ -76,12 +76,12 @@ fn show_46(f: times::Time) {
 }
 
 fn run_46(d: &[u8]) {
-    let r = times::decode_46(d);
+    let r = fields_46::decode_46(d);
     unsigned8(b"46 refusal ", r.refusal);
     show_46(r.fields);
 }
 
-fn show_gps_1(f: ephemeris::Gps) {
+fn show_gps_1(f: fields_49_gps::Gps) {
     unsigned8(b"49 GPS prn ", f.prn);
     unsigned32(b"49 GPS crs ", f.crs);
     unsigned32(b"49 GPS delta_n ", f.delta_n);
@@ -96,7 +96,7 @@ fn show_gps_1(f: ephemeris::Gps) {
     unsigned32(b"49 GPS cis ", f.cis);
 }
 
-fn show_gps_2(f: ephemeris::Gps) {
+fn show_gps_2(f: fields_49_gps::Gps) {
     unsigned(b"49 GPS i0 ", f.i0);
     unsigned32(b"49 GPS crc ", f.crc);
     unsigned(b"49 GPS omega ", f.omega);
@@ -111,7 +111,7 @@ fn show_gps_2(f: ephemeris::Gps) {
     unsigned16(b"49 GPS iode ", f.iode);
 }
 
-fn show_glonass_1(f: ephemeris::Glonass) {
+fn show_glonass_1(f: fields_49_glonass::Glonass) {
     unsigned8(b"49 GLONASS number ", f.number);
     signed8(b"49 GLONASS carrier ", f.carrier);
     unsigned(b"49 GLONASS x ", f.x);
@@ -126,31 +126,31 @@ fn show_glonass_1(f: ephemeris::Glonass) {
     unsigned(b"49 GLONASS tb ", f.tb);
 }
 
-fn show_glonass_2(f: ephemeris::Glonass) {
+fn show_glonass_2(f: fields_49_glonass::Glonass) {
     unsigned32(b"49 GLONASS gamma ", f.gamma);
     unsigned32(b"49 GLONASS tau ", f.tau);
     unsigned16(b"49 GLONASS age ", f.age);
 }
 
-fn show_ephemeris(r: ephemeris::Ephemeris) {
+fn show_ephemeris(r: fields_49::Ephemeris) {
     match r {
-        ephemeris::Ephemeris::Gps(f) => {
+        fields_49::Ephemeris::Gps(f) => {
             show_gps_1(f);
             show_gps_2(f);
         }
-        ephemeris::Ephemeris::Glonass(f) => {
+        fields_49::Ephemeris::Glonass(f) => {
             show_glonass_1(f);
             show_glonass_2(f);
         }
-        ephemeris::Ephemeris::Refused(n) => unsigned8(b"49 refusal ", n),
+        fields_49::Ephemeris::Refused(n) => unsigned8(b"49 refusal ", n),
     }
 }
 
 fn run_49(d: &[u8]) {
-    show_ephemeris(ephemeris::decode_49(d));
+    show_ephemeris(fields_49::decode_49(d));
 }
 
-fn show_4a(f: parameters::Ionosphere) {
+fn show_4a(f: fields_4a::Ionosphere) {
     unsigned32(b"4A alpha0 ", f.alpha0);
     unsigned32(b"4A alpha1 ", f.alpha1);
     unsigned32(b"4A alpha2 ", f.alpha2);
@@ -163,12 +163,12 @@ fn show_4a(f: parameters::Ionosphere) {
 }
 
 fn run_4a(d: &[u8]) {
-    let r = parameters::decode_4a(d);
+    let r = fields_4a::decode_4a(d);
     unsigned8(b"4A refusal ", r.refusal);
     show_4a(r.fields);
 }
 
-fn show_4b(f: parameters::Scales) {
+fn show_4b(f: fields_4b::Scales) {
     unsigned(b"4B a0 ", f.a0);
     unsigned(b"4B a1 ", f.a1);
     unsigned32(b"4B tot ", f.tot);
@@ -184,12 +184,12 @@ fn show_4b(f: parameters::Scales) {
 }
 
 fn run_4b(d: &[u8]) {
-    let r = parameters::decode_4b(d);
+    let r = fields_4b::decode_4b(d);
     unsigned8(b"4B refusal ", r.refusal);
     show_4b(r.fields);
 }
 
-fn show_eb(f: times::GlonassTime) {
+fn show_eb(f: fields_eb::GlonassTime) {
     unsigned(b"EB tau_c ", f.tau_c);
     unsigned32(b"EB tau_gps ", f.tau_gps);
     unsigned16(b"EB na ", f.na);
@@ -202,7 +202,7 @@ fn show_eb(f: times::GlonassTime) {
 }
 
 fn run_eb(d: &[u8]) {
-    let r = times::decode_eb(d);
+    let r = fields_eb::decode_eb(d);
     unsigned8(b"EB refusal ", r.refusal);
     show_eb(r.fields);
 }

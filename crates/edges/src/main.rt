@@ -4,11 +4,11 @@
 // - 01, mode, identifier, data: the writer's frame, then a fresh reader is fed it
 // - 02, mode, place, outside and fed in four bytes each, low byte first, a slice: a record with these numbers is fed the slice
 // A slice is fed again from where each call stopped until a call takes nothing, so an empty slice comes at the end of each.
-use reader::Answer;
-use reader::Event;
-use reader::Fed;
-use reader::Head;
-use reader::Reader;
+use record::Answer;
+use record::Event;
+use record::Fed;
+use record::Head;
+use record::Reader;
 ghost use mathlib.Core.Path.{_≡_};
 ghost use lib.ListN.{length};
 ghost use Prim.Native.Nat.{_≤_, _<_};
@@ -164,7 +164,7 @@ fn run(r0: Reader, s: &[u8]) {
     let mut r = r0;
     let mut done: usize = 0;
     while done <= s.len() {
-        let f = r.feed(&s[done..]);
+        let f = reader::feed(r, &s[done..]);
         show(f);
         let n = f.taken;
         if n == 0 {

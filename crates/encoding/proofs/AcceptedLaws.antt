@@ -46,6 +46,11 @@ module _ (id a b : ℕ) (f : List ℕ → Bool) (d : List ℕ) where
 pub one-length : (id a : ℕ) (f : List ℕ → Bool) (d : List ℕ) → rowIn table id ≡ some (only id a f) → content id d ≡ 0 → length d ≡ a
 one-length id a f d row h = elim (two-lengths id a a f d row h) [ inl e ↦ e | inr e ↦ e ]
 
+-- what holds of one identifier more
+pub either : (P : ℕ → Type 0) (id x : ℕ) (t : Bool) → P x → (t ≡ true → P id) → t || eqb id x ≡ true → P id
+either P id x true p rest e = rest refl
+either P id x false p rest e = rw (eqb-true id x e) p
+
 -- 52h: up to 75 entries of 7 bytes
 pub entries-52 : (d : List ℕ) → content 0x52 d ≡ 0 → (length d % 7 ≡ 0) × (length d / 7 ≤ 75)
 unfolding table rowIn lengthOk allows

@@ -2,7 +2,6 @@
 mod table; // questions 10 and 11: the twenty kinds and their lengths
 
 ghost use mathlib.Core.Path.{_≡_};
-ghost use lib.Dec.{eqb};
 ghost use Rattle.kinds.specs.Kinds.{table, rowIn, listed, allows, chosen49, lengthOk, inRange, content};
 
 // A row of the table of kinds: the identifier and the allowed lengths. Without entries (width 0) a length is `short` or `long`;
@@ -79,15 +78,15 @@ fn in_range(id: u8, body: &[u8]) -> bool
     ensures { λ r. ⌜ r ≡ inRange (rowIn table id) (now (body .entry)) ⌝ }
 {
     match id {
-        0x1F => ranges::in_1f(body),
-        0x20 => ranges::in_20(body),
-        0x23 => ranges::in_23(body),
-        0x43 => ranges::in_43(body),
-        0x46 => ranges::in_46(body),
-        0x47 => once::in_47(body),
-        0x49 => ranges::in_49(body),
-        0xEB => ranges::in_eb(body),
-        0x52 => ranges::in_52(body),
+        0x1F => range_states::in_1f(body),
+        0x20 => range_satellites::in_20(body),
+        0x23 => range_times::in_23(body),
+        0x43 => range_states::in_43(body),
+        0x46 => range_times::in_46(body),
+        0x47 => range_satellites::in_47(body),
+        0x49 => range_views::in_49(body),
+        0xEB => range_times::in_eb(body),
+        0x52 => range_views::in_52(body),
         _ => true,
     }
 }
@@ -107,23 +106,4 @@ pub fn content(id: u8, body: &[u8]) -> u8
         return 0;
     }
     12
-}
-
-// Whether the data of one kind alone are acceptable: for a reader that keeps the latest message of a kind.
-pub fn acceptable_43(body: &[u8]) -> bool
-    ensures { λ r. ⌜ r ≡ eqb (content 0x43 (now (body .entry))) 0 ⌝ }
-{
-    (body.len() == 6) & ranges::in_43(body)
-}
-
-pub fn acceptable_46(body: &[u8]) -> bool
-    ensures { λ r. ⌜ r ≡ eqb (content 0x46 (now (body .entry))) 0 ⌝ }
-{
-    (body.len() == 10) & ranges::in_46(body)
-}
-
-pub fn acceptable_eb(body: &[u8]) -> bool
-    ensures { λ r. ⌜ r ≡ eqb (content 0xEB (now (body .entry))) 0 ⌝ }
-{
-    (body.len() == 26) & ranges::in_eb(body)
 }

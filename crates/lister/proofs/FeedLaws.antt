@@ -11,9 +11,9 @@ use Rattle.line.specs.Table.{Event as Said}
 use Rattle.line.specs.Table.Event.{nothing, message, refusal}
 use Rattle.line.specs.Record.{Rec, Possible, Asked, limit, walk}
 use Rattle.line.proofs.SliceSteps.{possible-stable, walk-fits}
-use Rattle.reader.specs.declared.Reader.{Reader}
-use Rattle.reader.specs.declared.Fed.{Fed}
-use Rattle.reader.specs.View.{Parts, view, partsOf, shown}
+use Rattle.record.specs.declared.Reader.{Reader}
+use Rattle.record.specs.declared.Fed.{Fed}
+use Rattle.record.specs.View.{Parts, view, partsOf, shown}
 use Rattle.reader.specs.Posts.{FeedPost}
 use Rattle.lister.specs.Listing.{lineOf, longest, Piece, piece}
 use Rattle.lister.specs.Posts.{numberOf, lineShown}

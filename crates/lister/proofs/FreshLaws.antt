@@ -9,9 +9,9 @@ use lib.Dec.{leb}
 use Rattle.line.specs.Record.{Rec, Possible, Fresh as Begun, fresh}
 use Rattle.line.specs.Record.Fresh.{made, refused}
 use Rattle.line.proofs.Mirror.{mirror, is-possible}
-use Rattle.reader.specs.declared.Fresh.{Fresh}
-use Rattle.reader.specs.View.{view}
-use Rattle.reader.specs.Posts.{FreshPost}
+use Rattle.record.specs.declared.Fresh.{Fresh}
+use Rattle.record.specs.View.{view}
+use Rattle.record.specs.Posts.{FreshPost}
 use Rattle.lister.specs.Posts.{Good}
 
 pub fresh-refused : (m : ℕ) (x : Fresh) → FreshPost m x → (x .refusal ≡ 0 → ⊥) → (fresh m ≡ refused 1) × (x .refusal ≡ 1)

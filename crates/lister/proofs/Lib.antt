@@ -1,6 +1,8 @@
 pub mod PieceLaws
 pub mod FeedLaws
 pub mod Turns
+pub mod CountLaws
+pub mod Scanning
 pub mod PartLaws
 pub mod FreshLaws
 pub mod Printing

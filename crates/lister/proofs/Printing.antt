@@ -9,10 +9,10 @@ use lib.Dec.{ltb}
 use lib.ListN.{length, take, drop}
 use Rattle.line.specs.Record.{Rec, limit, eventOf, stepped, fresh}
 use Rattle.line.specs.Record.Fresh.{made}
-use Rattle.reader.specs.declared.Reader.{Reader}
-use Rattle.reader.specs.declared.Fresh.{Fresh}
-use Rattle.reader.specs.View.{view}
-use Rattle.reader.specs.Posts.{FreshPost}
+use Rattle.record.specs.declared.Reader.{Reader}
+use Rattle.record.specs.declared.Fresh.{Fresh}
+use Rattle.record.specs.View.{view}
+use Rattle.record.specs.Posts.{FreshPost}
 use Rattle.lister.specs.declared.Part.{Part}
 use Rattle.lister.specs.Listing.{lineOf, totalOf, text, longest, Piece, piece}
 use Rattle.lister.specs.Posts.{Counts, PartPost, Good, Prints}

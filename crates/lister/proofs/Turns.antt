@@ -1,4 +1,4 @@
--- The turns of `list_part`: what is right from where a turn stands is right from the start, with what was taken and written before.
+-- The turns of a part of a listing: what is right from where a turn stands is right from the start, after what came before.
 use mathlib.Core.Bool.{Bool, true, false, cond}
 use mathlib.Core.List.{List, [], _++_, append-assoc, append-nil}
 use mathlib.Core.Path.{_≡_, refl, sym, ap, _∙_, subst}
@@ -12,8 +12,8 @@ use lib.ListN.{length, take, drop, length-append, length-drop}
 use lib.Seq.{take-at, take-all, drop-drop, length-take-le, drop-length}
 use Rattle.octets.specs.Placing.{placed}
 use Rattle.octets.proofs.PlacingLaws.{placed-fits, placed-start, placed-nil, length-placed}
-use Rattle.reader.specs.declared.Reader.{Reader}
-use Rattle.reader.specs.declared.Fed.{Fed}
+use Rattle.record.specs.declared.Reader.{Reader}
+use Rattle.record.specs.declared.Fed.{Fed}
 use Rattle.reader.specs.Posts.{FeedPost}
 use Rattle.listing.proofs.LineLaws.{after}
 use Rattle.lister.specs.Listing.{longest}
@@ -56,7 +56,7 @@ offer-within s at room end e h = by (ltb room longest) e
     by true e = (omega arith, omega arith)
     by false e = (omega arith, omega arith)
 
-offered-within : (room : ℕ) (s : List ℕ) → length (offered room s) ≤ length s
+pub offered-within : (room : ℕ) (s : List ℕ) → length (offered room s) ≤ length s
 offered-within room s = by (ltb room longest)
   where
     by : (t : Bool) → length (cond t [] s) ≤ length s

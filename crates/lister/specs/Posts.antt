@@ -1,23 +1,21 @@
 -- What the calls return and leave.
-use mathlib.Core.Bool.{cond}
+use mathlib.Core.Bool.{Bool, true, false, cond}
 use mathlib.Core.List.{List, [], _++_}
 use mathlib.Core.Path.{_≡_}
 use Prim.Native.Nat.{ℕ, _≤_}
-use lib.Dec.{ltb}
 use lib.ListN.{length, take, drop}
 use Rattle.octets.specs.Placing.{placed}
-use Rattle.encoding.specs.declared.Written.{Written}
-use Rattle.encoding.specs.Written as Answers
-use Rattle.line.specs.Record.{Asked, Fresh, Possible}
-use Rattle.line.specs.Record.Fresh.{made, refused}
-use Rattle.reader.specs.declared.Reader.{Reader}
-use Rattle.reader.specs.declared.Fed.{Fed}
-use Rattle.reader.specs.declared.Event.{Event}
-use Rattle.reader.specs.declared.Event.the-variants.{Nothing, Message, Refusal}
-use Rattle.reader.specs.View.{view}
-use Rattle.listing.specs.Text.{eventLine, writtenOf}
+use Rattle.line.specs.Record.{Asked, Possible}
+use Rattle.record.specs.declared.Reader.{Reader}
+use Rattle.record.specs.declared.Fed.{Fed}
+use Rattle.record.specs.declared.Event.{Event}
+use Rattle.record.specs.declared.Event.the-variants.{Nothing, Message, Refusal}
+use Rattle.record.specs.View.{view}
+use Rattle.listing.specs.Text.{eventLine}
 use Rattle.lister.specs.declared.Part.{Part}
-use Rattle.lister.specs.Listing.{totalOf, text, piece}
+use Rattle.lister.specs.declared.Scanned.{Scanned}
+use Rattle.lister.specs.Listing.{totalOf, piece}
+use Rattle.lister.specs.Counting.{raised}
 
 -- n bytes at the start of xs: what a caller has to know to lend them
 abbrev pub Counts : ℕ → List ℕ → Type 0
@@ -43,6 +41,10 @@ PartPost r s b x b′ =
     × (x .length ≡ length (p .lines))
     × (b′ ≡ placed b 0 (p .lines)))
 
+-- how many events the bytes raise: refused by 1 or 2, none
+abbrev pub CountPost : Reader → List ℕ → ℕ → Type 0
+CountPost r s n = Asked (view r) ⊥ (λ v. n ≡ 0) (n ≡ raised (view r) s)
+
 -- what a program prints that lists in parts, as its bytes come: s is offered, m is yet to come. The lines of each part; and the
 -- total, once there is nothing to come or the next byte can't be counted
 pub data Prints : Reader → List ℕ → List ℕ → Type 0 where
@@ -52,12 +54,9 @@ pub data Prints : Reader → List ℕ → List ℕ → Type 0 where
   part : {r : Reader} {out : List ℕ} (s m b : List ℕ) (x : Part) (b′ : List ℕ) → PartPost r s b x b′ → Counts (x .length) b′
       → Prints (x .reader) (drop (x .taken) (s ++ m)) out → Prints r (s ++ m) (take (x .length) b′ ++ out)
 
--- of private functions: a reader that questions 1 and 2 let pass, and the answer for a text t and so many bytes of room
+-- of private functions: a reader that questions 1 and 2 let pass
 abbrev pub Good : Reader → Type 0
 Good r = (r .head .mode ≤ 1) × Possible (view r)
-
-abbrev pub measured : List ℕ → ℕ → Written
-measured t room = cond (ltb room (length t)) (Answers.refused 13) (Answers.accepted (length t))
 
 -- the number of an event in memory, and its line
 abbrev pub numberOf : Event → ℕ
@@ -69,3 +68,14 @@ abbrev pub lineShown : ℕ → Event → ℕ → ℕ → List ℕ
 lineShown offset Nothing id n = []
 lineShown offset Message id n = eventLine offset id 0 n
 lineShown offset (Refusal v) id n = eventLine offset id v n
+
+-- and where lines may not be wanted
+abbrev pub lineIf : Bool → ℕ → Event → ℕ → ℕ → List ℕ
+lineIf lines offset e id n = cond lines (lineShown offset e id n) []
+
+-- of a private function: a part of a listing where lines are wanted, and else the events alone
+pub record ScanPost (lines : Bool) (r : Reader) (s b : List ℕ) (x : Scanned) (b′ : List ℕ) : Type 0 where
+  pub part : lines ≡ true → PartPost r s b (x .part) b′
+  pub count : lines ≡ false → CountPost r s (x .events)
+  pub within : x .part .taken ≤ length s
+  pub counts : Counts (x .part .length) b′

@@ -1,6 +1,6 @@
 // Lists the events of the bytes on standard input, whose frames have a checksum.
 use lister::Part;
-use reader::Reader;
+use record::Reader;
 
 // Prints the lines of a chunk. What is left over is a byte that can't be counted.
 fn list_chunk(r: Reader, s: &[u8], lines: &mut [u8]) -> Part {

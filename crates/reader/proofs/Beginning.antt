@@ -13,19 +13,20 @@ use Rattle.line.specs.Table.{Event as Said}
 use Rattle.line.specs.Table.Event.{nothing, message, refusal}
 use Rattle.line.specs.Record.{Rec, Kept, Place, Possible, Result, limit, stateOf, eventOf, stepped, orStop, oneMore, walk}
 use Rattle.line.proofs.Mirror.{PlaceOk}
-use Rattle.reader.specs.View.{placeOf, dataOf, latestOf, view, partsOf, shown}
+use Rattle.record.specs.View.{placeOf, dataOf, view, partsOf, shown}
+use Rattle.latest.specs.Latest.{latestOf}
 use Rattle.reader.specs.Posts.{Reads}
 use Rattle.reader.specs.Moving.{Base, see, placeNow, startOf, baseOf, turned, Pends, Sound, Fits, Ran, Finishes, storedBy}
-use Rattle.reader.specs.declared.Head.{Head}
-use Rattle.reader.specs.declared.Latest.{Latest}
-use Rattle.reader.specs.declared.Reader.{Reader}
+use Rattle.record.specs.declared.Head.{Head}
+use Rattle.latest.specs.declared.Latest.{Latest}
+use Rattle.record.specs.declared.Reader.{Reader}
 use Rattle.reader.specs.declared.Moving.{Moving}
 use Rattle.reader.specs.declared.Moved.{Moved}
 use Rattle.reader.specs.declared.Closed.{Closed}
 use Rattle.reader.specs.declared.Act.the-variants.{Quiet}
-use Rattle.reader.proofs.Feeding.{tested, closes}
-use Rattle.reader.proofs.Finishing.{data-take, data-length}
-use Rattle.reader.proofs.Question.{Asks, Clauses, clauses-open, of-possible}
+use Rattle.record.proofs.Data.{tested, data-take, data-length}
+use Rattle.reader.proofs.Feeding.{closes}
+use Rattle.record.proofs.Question.{Asks, Clauses, clauses-open, of-possible}
 
 -- in W and WD the data do not count
 place-low : (n id : ℕ) (d d′ : List ℕ) (c1 c2 : ℕ) → n < 2 → placeOf n id d c1 c2 ≡ placeOf n id d′ c1 c2
@@ -132,28 +133,3 @@ module _ (r : Reader) (whole : length (r .bytes) ≡ 1024) (p : Possible (view r
         said = f .said ∙ ap (λ (y : Result). shown (y .answer)) (sym w);
         taken = ap (λ (y : Result). y .taken) (sym w);
       }
-
--- a slice of one byte is a step
-pub record Single (v : Rec) (b : ℕ) : Type 0 where
-  pub after : walk v (b ∷ []) .after ≡ stepped v b
-  pub answer : walk v (b ∷ []) .answer ≡ eventOf v b
-
-pub single : (v : Rec) (b : ℕ) → v .fed < limit → Single v b
-single v b l = by (ltb (v .fed) limit) (lt-ltb (v .fed) limit l) (eventOf v b) refl
-  where
-    end : Bool → Said → Result
-    end t e =
-        cond t
-        (orStop e (oneMore (record { after = stepped v b; answer = nothing; taken = 0 })) (record { after = stepped v b; answer = e; taken = 1 }))
-        (record { after = v; answer = nothing; taken = 0 })
-
-    is : (t : Bool) (e : Said) → ltb (v .fed) limit ≡ t → eventOf v b ≡ e → walk v (b ∷ []) ≡ end t e
-    is t e p q = λ i. end (p i) (q i)
-
-    by : (t : Bool) → ltb (v .fed) limit ≡ true → (e : Said) → eventOf v b ≡ e → Single v b
-    by t p nothing q =
-        record { after = ap (λ (y : Result). y .after) (is true nothing p q); answer = ap (λ (y : Result). y .answer) (is true nothing p q) ∙ sym q }
-    by t p (message i d n) q =
-        record { after = ap (λ (y : Result). y .after) (is true (message i d n) p q); answer = ap (λ (y : Result). y .answer) (is true (message i d n) p q) ∙ sym q }
-    by t p (refusal w i n) q =
-        record { after = ap (λ (y : Result). y .after) (is true (refusal w i n) p q); answer = ap (λ (y : Result). y .answer) (is true (refusal w i n) p q) ∙ sym q }

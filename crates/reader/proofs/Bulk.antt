@@ -23,11 +23,12 @@ use Rattle.line.specs.Record.{Rec, Result, limit, stateOf, walk}
 use Rattle.line.specs.Record.Place.{at as on}
 use Rattle.line.proofs.Classes.{dle-is}
 use Rattle.line.proofs.Reading.{is}
-use Rattle.reader.specs.View.{placeOf}
+use Rattle.record.specs.View.{placeOf}
 use Rattle.reader.specs.Moving.{NoDle, Copied, Base, Out, one, see, placeNow, ahead, onward, Pends}
 use Rattle.reader.specs.declared.Moving.{Moving}
 use Rattle.reader.proofs.Stepping.{byStep, one-by}
-use Rattle.reader.proofs.Feeding.{tested, one-step, Silent}
+use Rattle.record.proofs.Data.{tested}
+use Rattle.reader.proofs.Feeding.{one-step, Silent}
 
 pub none-yet : (s : List ℕ) (from : ℕ) → NoDle s from from
 none-yet s from j h l = absurd (let z : ⊥ = omega arith in z)

@@ -15,16 +15,12 @@ use Rattle.line.proofs.Mirror.{PlaceOk, sound}
 use Rattle.line.specs.Table.{Event as Said, pending, verdict}
 use Rattle.line.specs.Table.Event.{nothing, message, refusal}
 use Rattle.line.specs.Record.{Rec, Kept, Result, limit, stateOf, eventOf, stepped, oneMore, orStop, walk}
+use Rattle.record.proofs.Data.{tested}
 use Rattle.reader.specs.Moving.{Base, Out, one, see, placeNow, turned, ended, verdictOf, ahead, onward, Pends, Sound, Fits, Steps, Goes, Ran}
 use Rattle.reader.specs.declared.Moving.{Moving}
 use Rattle.reader.specs.declared.Moved.{Moved}
 use Rattle.reader.specs.declared.Act.{Act}
 use Rattle.reader.specs.declared.Act.the-variants.{Quiet, Refused, Reopened, Ended}
-
--- a test, with its answer
-pub tested {ℓ} : {P : Type ℓ} (t : Bool) → (t ≡ true → P) → (t ≡ false → P) → P
-tested true y n = y refl
-tested false y n = n refl
 
 -- one byte more, whatever it raises
 more-by : (e : Said) (at : ℕ) (y : Result) (r : Rec)

@@ -18,25 +18,15 @@ use Rattle.line.specs.Table.State.{W, F}
 use Rattle.line.specs.Table.Event.{nothing, message, refusal}
 use Rattle.line.specs.Record.{Kept, update}
 use Rattle.line.specs.Record.Place.{at as on}
-use Rattle.reader.specs.View.{placeOf, dataOf, shown}
+use Rattle.record.specs.View.{placeOf, dataOf, shown}
+use Rattle.record.proofs.Data.{data-take, data-length}
 use Rattle.reader.specs.Moving.{Base, Out, see, closedBy, ended, verdictOf, turned, baseOf, headWith, concludedBy, storedBy, seeHead, Finishes}
-use Rattle.reader.specs.declared.Head.{Head}
+use Rattle.record.specs.declared.Head.{Head}
 use Rattle.reader.specs.declared.Moving.{Moving}
 use Rattle.reader.specs.declared.Closed.{Closed}
 use Rattle.reader.specs.declared.Act.{Act}
 use Rattle.reader.specs.declared.Act.the-variants.{Quiet, Refused, Reopened, Ended}
-use Rattle.reader.specs.declared.Event.the-variants.{Nothing, Message, Refusal}
-
--- within the array, the data are its first bytes
-pub data-take : (n : ℕ) (a : List ℕ) → n ≤ length a → dataOf n a ≡ take n a
-unfolding dataOf
-data-take n a h = take-append-le n a (replicate n 0) h
-
--- and they are always as many as said
-pub data-length : (n : ℕ) (a : List ℕ) → length (dataOf n a) ≡ n
-unfolding dataOf
-data-length n a =
-    length-take-le n (a ++ replicate n 0) (rw (length-append a (replicate n 0), length-replicate {A = ℕ} n 0) (omega arith))
+use Rattle.record.specs.declared.Event.the-variants.{Nothing, Message, Refusal}
 
 -- where questions 9 to 12 are yes, 10 to 12 are
 judge-accepts : (m : Mode) (id : ℕ) (d : List ℕ) (c1 c2 : ℕ) → judge m id d c1 c2 ≡ 0 → Acceptable id d

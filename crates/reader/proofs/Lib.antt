@@ -3,9 +3,4 @@ pub mod Feeding
 pub mod Bulk
 pub mod Rows
 pub mod Finishing
-pub mod Deciding
-pub mod Storing
-pub mod Question
 pub mod Beginning
-pub mod Demand3
-pub mod Slices

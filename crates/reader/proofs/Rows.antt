@@ -19,23 +19,13 @@ use Rattle.line.specs.Table.Event.{nothing, refusal}
 use Rattle.line.specs.Record.{Place, limit, stateOf}
 use Rattle.line.specs.Record.Place.{at as on}
 use Rattle.line.proofs.Classes.{class-dle, class-etx, class-sum}
-use Rattle.reader.specs.View.{placeOf}
+use Rattle.record.specs.View.{placeOf}
 use Rattle.reader.specs.Moving.{Base, Out, one, see, placeNow, turned, verdictOf, Pends, Fits, Busy, Steps, went, passed, opened, shut}
 use Rattle.reader.specs.declared.Moving.{Moving}
 use Rattle.reader.specs.declared.Moved.{Moved}
 use Rattle.reader.specs.declared.Act.{Act}
 use Rattle.reader.specs.declared.Act.the-variants.{Quiet, Refused, Reopened, Ended}
 use Rattle.reader.proofs.Stepping.{here, quiet-says, closed-says, ended-says, pending-went}
-
--- the class of a byte, from the arms of a match
-pub is-dle : (b : ℕ) → b ≡ 16 → classOf b ≡ dle
-is-dle b q = ap classOf q ∙ class-dle
-
-pub is-etx : (b : ℕ) → b ≡ 3 → classOf b ≡ etx
-is-etx b q = ap classOf q ∙ class-etx
-
-pub is-sum : (b : ℕ) → b ≡ 255 → classOf b ≡ sum
-is-sum b q = ap classOf q ∙ class-sum
 
 -- a row of the table, with the mode
 pub row-mode : {m M : Mode} {z s : State} (b : ℕ) {k : Class} {t : Step} → m ≡ M → z ≡ s → classOf b ≡ k → row M s k b ≡ t → next m z b ≡ t

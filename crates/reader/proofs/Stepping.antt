@@ -16,7 +16,7 @@ use Rattle.line.specs.Table.Event.{nothing, message, refusal}
 use Rattle.line.specs.Record.{Rec, Place, stateOf, update}
 use Rattle.line.specs.Record.Place.{at as on}
 use Rattle.line.proofs.Account.{balanced}
-use Rattle.reader.specs.View.{placeOf}
+use Rattle.record.specs.View.{placeOf}
 use Rattle.reader.specs.Moving.{Base, Out, one, see, placeNow, turned, closedBy, ended, verdictOf, Pends}
 use Rattle.reader.specs.declared.Moving.{Moving}
 use Rattle.reader.specs.declared.Act.the-variants.{Quiet, Refused, Reopened, Ended}

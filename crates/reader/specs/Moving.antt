@@ -6,30 +6,22 @@ use mathlib.Core.Path.{_≡_}
 use Prim.Native.Nat.{ℕ, _+_, _-_, _≤_, _<_}
 use lib.Dec.{eqb, ltb}
 use lib.ListN.{length, take, drop, getD}
-use Rattle.octets.specs.Stuffing.{DLE, dles}
-use Rattle.line.specs.Frame.{modeOf, classOf, judge, Acceptable}
-use Rattle.line.specs.Frame.Class.{other}
+use Rattle.octets.specs.Stuffing.{DLE}
+use Rattle.line.specs.Frame.{modeOf, judge, Acceptable}
 use Rattle.line.specs.Table.{Event as Said, State, pending, verdict}
 use Rattle.line.specs.Table.State.{W, F}
 use Rattle.line.specs.Table.Event.{nothing, message, refusal}
 use Rattle.line.proofs.Mirror.{PlaceOk}
-use Rattle.line.specs.Record.{Rec, Kept, Place, Result, Fit, limit, stateOf, update, eventOf, stepped, orStop, walk}
-use Rattle.line.specs.Record.Kept.{k43, k46, kEB}
+use Rattle.line.specs.Record.{Rec, Kept, Place, Result, limit, stateOf, update, eventOf, stepped, orStop, walk}
 use Rattle.line.specs.Record.Place.{at as on}
-use Rattle.reader.specs.View.{placeOf, dataOf, latestOf, Parts, shown}
-use Rattle.reader.specs.declared.Head.{Head}
-use Rattle.reader.specs.declared.Latest.{Latest}
+use Rattle.record.specs.View.{placeOf, dataOf, Parts, shown}
+use Rattle.record.specs.declared.Head.{Head}
 use Rattle.reader.specs.declared.Moving.{Moving}
 use Rattle.reader.specs.declared.Act.{Act}
 use Rattle.reader.specs.declared.Act.the-variants.{Quiet, Refused, Reopened, Ended}
 use Rattle.reader.specs.declared.Moved.{Moved}
 use Rattle.reader.specs.declared.Closed.{Closed}
-use Rattle.reader.specs.declared.Event.the-variants.{Nothing, Message, Refusal}
-
--- a Bool that says whether P holds
-abbrev pub Decides : Type 0 → Bool → Type 0
-Decides P true = P
-Decides P false = P → ⊥
+use Rattle.record.specs.declared.Event.the-variants.{Nothing, Message, Refusal}
 
 -- no byte from one place up to another is DLE
 abbrev pub NoDle : List ℕ → ℕ → ℕ → Type 0
@@ -299,32 +291,6 @@ concludedBy false h m at v =
 
 abbrev pub concluded : Head → Moving → ℕ → ℕ → Closed
 concluded h m at v = concludedBy (eqb v 0) h m at v
-
--- the clauses of question 2, as the code asks them
-pub record Usable (id : ℕ) : Type 0 where
-  pub usable : classOf id ≡ other
-
-pub record Opened (h : Head) : Type 0 where
-  pub known : h .place < 8
-  pub summed : h .mode ≡ 0 → h .place < 4
-  pub short : h .len ≤ 1024
-  pub usable : classOf (h .id) ≡ other
-
-pub record LatestOk (l : Latest) : Type 0 where
-  pub ok43 : Fit 0x43 (latestOf l k43)
-  pub ok46 : Fit 0x46 (latestOf l k46)
-  pub okEB : Fit 0xEB (latestOf l kEB)
-
--- pending is exactly the bytes of an open frame
-abbrev pub Held : Head → List ℕ → Type 0
-Held h a = h .pending ≡ h .place + (h .len + dles (take (h .len) a))
-
--- the other clauses
-pub record Plausible (h : Head) (l : Latest) : Type 0 where
-  pub fed : h .fed ≡ h .accepted + h .refused + h .outside + h .pending
-  pub latest : LatestOk l
-  pub low : h .place < 2 → h .pending ≡ h .place
-  pub opened : 2 ≤ h .place → Opened h
 
 -- the latest messages, where a message was given, and where none was
 abbrev pub storedBy : Bool → ℕ → List ℕ → (Kept → Option (List ℕ)) → Kept → Option (List ℕ)

@@ -1,85 +1,20 @@
-// The reader: a record by value, a fresh one, the single step and the slice call.
-ghost use mathlib.Core.Bool.{true, false};
+// The slice call: bytes up to the first event, the end of the slice or the limit.
+use record::Answer;
+use record::Event;
+use record::Fed;
+use record::Head;
+use record::Reader;
+ghost use mathlib.Core.Bool.{false};
 ghost use mathlib.Core.Option.{Option};
 ghost use mathlib.Core.List.{List};
 ghost use mathlib.Core.Path.{_≡_};
 ghost use Prim.Native.Nat.{ℕ, _+_, _-_, _<_, _≤_};
 ghost use lib.ListN.{length, take};
-ghost use Rattle.octets.specs.Stuffing.{dles};
-ghost use Rattle.line.specs.Frame.{modeOf, judge as judgeOf, Acceptable};
-ghost use Rattle.line.specs.Record.{limit, Possible, walk, Kept, Fit};
-ghost use Rattle.line.specs.Record.Kept.{k43, k46, kEB};
-ghost use Rattle.reader.specs.View.{view, latestOf, partsOf, shown};
-ghost use Rattle.reader.specs.Posts.{FreshPost, StepPost, FeedPost, blank as blankOf, Refuses, Reads};
-ghost use Rattle.reader.specs.Moving.{Decides, Usable, Opened, LatestOk, Plausible, Held, Skips, Copied, Fills, Fits, Pends, Sound, Busy, Steps, Goes, Ran, Finishes, went, passed, opened, shut as shutOf, turned, baseOf, startOf, storedBy, headWith, resumed, reopenedBy, concludedBy, concluded};
-
-// The numbers of the record. Mode and place are numbers, so that a wrong one can be refused.
-pub struct Head {
-    pub mode: u8,
-    pub place: u8,
-    pub id: u8,
-    pub c1: u8,
-    pub c2: u8,
-    pub len: usize,
-    pub accepted: u32,
-    pub refused: u32,
-    pub outside: u32,
-    pub pending: u32,
-    pub fed: u32,
-}
-
-// The latest message of each kind that is kept: whether there is one, and its data.
-pub struct Latest {
-    pub has43: bool,
-    pub d43: [u8; 6],
-    pub has46: bool,
-    pub d46: [u8; 10],
-    pub has4a: bool,
-    pub d4a: [u8; 33],
-    pub has4b: bool,
-    pub d4b: [u8; 42],
-    pub haseb: bool,
-    pub deb: [u8; 26],
-}
-
-pub struct Reader {
-    pub head: Head,
-    pub latest: Latest,
-    pub bytes: [u8; 1024],
-}
-
-// Nothing yet, a message, or a refusal by its number.
-pub enum Event {
-    Nothing,
-    Message,
-    Refusal(u8),
-}
-
-// A message's data are the first `len` bytes.
-pub struct Answer {
-    pub event: Event,
-    pub id: u8,
-    pub len: usize,
-    pub bytes: [u8; 1024],
-    pub closed: u32,
-}
-
-// A fresh reader, or refusal 1 beside a blank record.
-pub struct Fresh {
-    pub refusal: u8,
-    pub reader: Reader,
-}
-
-pub struct Stepped {
-    pub reader: Reader,
-    pub answer: Answer,
-}
-
-pub struct Fed {
-    pub reader: Reader,
-    pub answer: Answer,
-    pub taken: usize,
-}
+ghost use Rattle.line.specs.Frame.{modeOf, judge as judgeOf};
+ghost use Rattle.line.specs.Record.{limit, Possible, walk, Kept};
+ghost use Rattle.record.specs.View.{view};
+ghost use Rattle.reader.specs.Posts.{FeedPost, Reads};
+ghost use Rattle.reader.specs.Moving.{Skips, Copied, Fills, Fits, Pends, Sound, Busy, Steps, Goes, Ran, Finishes, went, passed, opened, shut as shutOf, turned, baseOf, startOf, headWith, resumed, reopenedBy, concludedBy, concluded};
 
 // The numbers that move in a slice call.
 pub struct Moving {
@@ -657,345 +592,66 @@ fn finish(h: Head, t: Moved, d: &[u8]) -> Closed
     }
 }
 
-// The latest messages, once a message is given.
-fn store(l: Latest, id: u8, d: &[u8], len: usize) -> Latest
-    requires { ⌜ (len ≤ length (now d)) × Acceptable id (take len (now d)) ⌝ }
-    ensures { λ r. ⌜ ((i : Kept) → latestOf r i ≡ storedBy true id (take len (now (d .entry))) (latestOf l) i) ⌝ }
+// Steps over a slice until the first event, its end or the limit: the caller has asked questions 1 and 2.
+fn read(old: Reader, s: &[u8]) -> Fed
+    requires { ⌜ (old .head .mode ≤ 1) × Possible (view old) ⌝ }
+    ensures { λ r. ⌜ Reads (walk (view old) (now (s .entry))) r ⌝ }
 {
-    let mut n = l;
-    match id {
-        0x43 => {
-            let mut x = [0u8; 6];
-            octets::put(&d[..6], &mut x, 0);
-            n.has43 = true;
-            n.d43 = x;
-            n
-        }
-        0x46 => {
-            let mut x = [0u8; 10];
-            octets::put(&d[..10], &mut x, 0);
-            n.has46 = true;
-            n.d46 = x;
-            n
-        }
-        0x4A => {
-            let mut x = [0u8; 33];
-            octets::put(&d[..33], &mut x, 0);
-            n.has4a = true;
-            n.d4a = x;
-            n
-        }
-        0x4B => {
-            let mut x = [0u8; 42];
-            octets::put(&d[..42], &mut x, 0);
-            n.has4b = true;
-            n.d4b = x;
-            n
-        }
-        0xEB => {
-            let mut x = [0u8; 26];
-            octets::put(&d[..26], &mut x, 0);
-            n.haseb = true;
-            n.deb = x;
-            n
-        }
-        _ => n,
-    }
-}
-
-// Question 2, by its clauses.
-
-// An identifier that is no service code.
-fn usable(id: u8) -> bool
-    ensures { λ r. ⌜ Decides (Usable id) r ⌝ }
-{
-    match id {
-        Reader::ETX | Reader::DLE | Reader::SUM => false,
-        0..=2 | 4..=15 | 17..=254 => true,
-    }
-}
-
-// An open frame's place, identifier and length.
-fn open(h: Head) -> bool
-    ensures { λ r. ⌜ Decides (Opened h) r ⌝ }
-{
-    if 8 <= h.place {
-        return false;
-    }
-    if 1024 < h.len {
-        return false;
-    }
-    if h.mode == 0 {
-        if 4 <= h.place {
-            return false;
-        }
-        return usable(h.id);
-    }
-    usable(h.id)
-}
-
-// Whether fed is the sum of the other four counts. By differences, so that no wider number is needed.
-fn balanced(h: Head) -> bool
-    ensures { λ r. ⌜ Decides (h .fed ≡ h .accepted + h .refused + h .outside + h .pending) r ⌝ }
-{
-    if h.fed < h.accepted {
-        return false;
-    }
-    let a = h.fed - h.accepted;
-    if a < h.refused {
-        return false;
-    }
-    let b = a - h.refused;
-    if b < h.outside {
-        return false;
-    }
-    let c = b - h.outside;
-    if c == h.pending { true } else { false }
-}
-
-// Whether the latest message of a kind, if any, is acceptable. Any 33 or 42 bytes are an acceptable 4Ah or 4Bh.
-fn fits_43(l: Latest) -> bool
-    ensures { λ r. ⌜ Decides (Fit 0x43 (latestOf l k43)) r ⌝ }
-{
-    if l.has43 {
-        let d = l.d43;
-        return kinds::acceptable_43(&d);
-    }
-    true
-}
-
-fn fits_46(l: Latest) -> bool
-    ensures { λ r. ⌜ Decides (Fit 0x46 (latestOf l k46)) r ⌝ }
-{
-    if l.has46 {
-        let d = l.d46;
-        return kinds::acceptable_46(&d);
-    }
-    true
-}
-
-fn fits_eb(l: Latest) -> bool
-    ensures { λ r. ⌜ Decides (Fit 0xEB (latestOf l kEB)) r ⌝ }
-{
-    if l.haseb {
-        let d = l.deb;
-        return kinds::acceptable_eb(&d);
-    }
-    true
-}
-
-fn latest_ok(l: Latest) -> bool
-    ensures { λ r. ⌜ Decides (LatestOk l) r ⌝ }
-{
-    if !fits_43(l) {
-        return false;
-    }
-    if !fits_46(l) {
-        return false;
-    }
-    fits_eb(l)
-}
-
-// The pending bytes of an open frame: its place, its data and each DLE among them once more.
-fn pending_of(h: Head, d: &[u8]) -> usize
-    requires { ⌜ (h .len ≤ 1024) × (length (now d) ≡ 1024) ⌝ }
-    ensures { λ r. ⌜ r ≡ h .place + (h .len + dles (take (h .len) (now (d .entry)))) ⌝ }
-{
-    let len = h.len;
-    h.place as usize + (len + octets::count_dle(&d[..len]))
-}
-
-// Question 2, but for the pending bytes of an open frame. They need the array, and to pass it on is to copy it.
-fn plausible(h: Head, l: Latest) -> bool
-    ensures { λ r. ⌜ Decides (Plausible h l) r ⌝ }
-{
-    if !balanced(h) {
-        return false;
-    }
-    if !latest_ok(l) {
-        return false;
-    }
-    if h.place < 2 {
-        if h.pending == h.place as u32 {
-            return true;
-        }
-        return false;
-    }
-    open(h)
-}
-
-impl Reader {
-    // The service codes.
-    pub const DLE: u8 = 0x10;
-
-    pub const ETX: u8 = 0x03;
-
-    pub const SUM: u8 = 0xFF;
-
-    // The largest number of bytes that can be counted.
-    pub const LIMIT: u32 = 4294967295;
-
-    // A record of a mode that has taken nothing.
-    fn blank(mode: u8) -> Reader
-        ensures { λ r. ⌜ r ≡ blankOf mode ⌝ }
-    {
-        let head = Head {
-            mode: mode,
-            place: 0,
-            id: 0,
-            c1: 0,
-            c2: 0,
-            len: 0,
-            accepted: 0,
-            refused: 0,
-            outside: 0,
-            pending: 0,
-            fed: 0,
-        };
-        let latest = Latest {
-            has43: false,
-            d43: [0u8; 6],
-            has46: false,
-            d46: [0u8; 10],
-            has4a: false,
-            d4a: [0u8; 33],
-            has4b: false,
-            d4b: [0u8; 42],
-            haseb: false,
-            deb: [0u8; 26],
-        };
-        let bytes = [0u8; 1024];
-        Reader {
-            head: head,
-            latest: latest,
-            bytes: bytes,
-        }
-    }
-
-    // A fresh reader of mode 0 or 1; any other mode is refused by 1.
-    pub fn fresh(mode: u8) -> Fresh
-        ensures { λ r. ⌜ FreshPost mode r ⌝ }
-    {
-        let reader = Reader::blank(mode);
-        if mode <= 1 {
-            return Fresh {
-                refusal: 0,
-                reader: reader,
-            };
-        }
-        Fresh {
-            refusal: 1,
-            reader: reader,
-        }
-    }
-
-    // Refused by 1, 2 or 3: the record as it was, and an answer with nothing in it.
-    fn refuse(self, n: u8) -> Fed
-        ensures { λ r. ⌜ Refuses n self r ⌝ }
-    {
-        let bytes = self.bytes;
-        let answer = Answer {
-            event: Event::Refusal(n),
-            id: 0,
-            len: 0,
-            bytes: bytes,
-            closed: 0,
-        };
-        Fed {
-            reader: self,
-            answer: answer,
-            taken: 0,
-        }
-    }
-
-    // Steps over a slice until the first event, its end or the limit: the caller has asked questions 1 and 2.
-    fn read(self, s: &[u8]) -> Fed
-        requires { ⌜ (self .head .mode ≤ 1) × Possible (view self) ⌝ }
-        ensures { λ r. ⌜ Reads (walk (view self) (now (s .entry))) r ⌝ }
-    {
-        let h = self.head;
-        let mut r = self;
-        let n = span(h.fed, s.len());
-        let w = start(h);
-        let t = run(h.mode, w, &mut r.bytes, s, n);
-        let o = finish(h, t, &r.bytes);
-        let g = o.head;
-        r.head = g;
-        let e = o.event;
-        let bytes = r.bytes;
-        let a = Answer {
-            event: e,
-            id: o.id,
-            len: o.len,
-            bytes: bytes,
-            closed: o.closed,
-        };
-        if o.keep {
-            let old = r.latest;
-            let l = store(old, o.id, &r.bytes, o.len);
-            r.latest = l;
-            return Fed {
-                reader: r,
-                answer: a,
-                taken: t.at,
-            };
-        }
-        Fed {
+    let h = old.head;
+    let mut r = old;
+    let n = span(h.fed, s.len());
+    let w = start(h);
+    let t = run(h.mode, w, &mut r.bytes, s, n);
+    let o = finish(h, t, &r.bytes);
+    let g = o.head;
+    r.head = g;
+    let e = o.event;
+    let bytes = r.bytes;
+    let a = Answer {
+        event: e,
+        id: o.id,
+        len: o.len,
+        bytes: bytes,
+        closed: o.closed,
+    };
+    if o.keep {
+        let before = r.latest;
+        let l = latest::store(before, o.id, &r.bytes, o.len);
+        r.latest = l;
+        return Fed {
             reader: r,
             answer: a,
             taken: t.at,
-        }
+        };
     }
+    Fed {
+        reader: r,
+        answer: a,
+        taken: t.at,
+    }
+}
 
-    // Question 2, the last clause for an open frame: pending is exactly its bytes.
-    fn held(self) -> bool
-        requires { ⌜ self .head .len ≤ 1024 ⌝ }
-        ensures { λ r. ⌜ Decides (Held (self .head) (self .bytes)) r ⌝ }
-    {
-        let h = self.head;
-        let d = self.bytes;
-        if h.pending as usize == pending_of(h, &d) {
-            return true;
-        }
-        false
+// The slice call: bytes up to the first event, the end of the slice or the limit.
+pub fn feed(r: Reader, s: &[u8]) -> Fed
+    ensures { λ x. ⌜ FeedPost r (now (s .entry)) x ⌝ }
+{
+    let h = r.head;
+    if 2 <= h.mode {
+        return r.refuse(1);
     }
-
-    // The slice call: bytes up to the first event, the end of the slice or the limit.
-    pub fn feed(self, s: &[u8]) -> Fed
-        ensures { λ r. ⌜ FeedPost self (now (s .entry)) r ⌝ }
-    {
-        let h = self.head;
-        if 2 <= h.mode {
-            return self.refuse(1);
-        }
-        let l = self.latest;
-        if !plausible(h, l) {
-            return self.refuse(2);
-        }
-        if 2 <= h.place {
-            if !self.held() {
-                return self.refuse(2);
-            }
-        }
-        if h.fed >= Reader::LIMIT {
-            if 0 < s.len() {
-                return self.refuse(3);
-            }
-        }
-        self.read(s)
+    let l = r.latest;
+    if !record::plausible(h, l) {
+        return r.refuse(2);
     }
-
-    // The single step: the slice call on one byte.
-    pub fn step(self, b: u8) -> Stepped
-        ensures { λ r. ⌜ StepPost self b r ⌝ }
-    {
-        let one = [b];
-        let f = self.feed(&one);
-        let reader = f.reader;
-        let answer = f.answer;
-        Stepped {
-            reader: reader,
-            answer: answer,
+    if 2 <= h.place {
+        if !r.held() {
+            return r.refuse(2);
         }
     }
+    if h.fed >= Reader::LIMIT {
+        if 0 < s.len() {
+            return r.refuse(3);
+        }
+    }
+    read(r, s)
 }

@@ -5,11 +5,11 @@
 // - 02, mode: a fresh reader
 // A record is mode, place, identifier, c1, c2, then length and the counts accepted, refused, outside, pending and fed in four bytes
 // each, low byte first, then the identifier of a standing reading or 00, 42 bytes for it, and 8 bytes for the data.
-use reader::Event;
-use reader::Fed;
-use reader::Head;
-use reader::Latest;
-use reader::Reader;
+use latest::Latest;
+use record::Event;
+use record::Fed;
+use record::Head;
+use record::Reader;
 ghost use mathlib.Core.Path.{_≡_};
 ghost use lib.ListN.{length};
 ghost use Prim.Native.Nat.{_≤_, _<_};
@@ -248,11 +248,11 @@ fn show(label: &[u8], before: Reader, f: Fed) {
 
 // Single steps up to the first event, or through the slice; taken is the number of calls.
 fn show_steps(r0: Reader, s: &[u8]) {
-    let mut f = r0.feed(&s[0..0]);
+    let mut f = reader::feed(r0, &s[0..0]);
     let mut i: usize = 0;
     while i < s.len() {
         let before = f.reader;
-        let t = before.step(s[i]);
+        let t = calls::step(before, s[i]);
         i += 1;
         let a = t.answer;
         let e = a.event;
@@ -272,8 +272,8 @@ fn show_steps(r0: Reader, s: &[u8]) {
 
 fn run(r: Reader, s: &[u8]) {
     show_steps(r, s);
-    show(b"slice ", r, r.feed(s));
-    show(b"empty ", r, r.feed(&s[0..0]));
+    show(b"slice ", r, reader::feed(r, s));
+    show(b"empty ", r, reader::feed(r, &s[0..0]));
 }
 
 fn head_of(s: &[u8]) -> Head {

@@ -1,4 +1,4 @@
--- What the types of the sources' tables mean, read at an offset and written as a row. FP32 and FP64 are kept as their bits.
+-- What the rows of the sources' tables are as bytes. FP32 and FP64 are kept as their bits.
 use mathlib.Core.Bool.{Bool, true, cond, _&&_}
 use mathlib.Core.List.{List, [], _∷_, _++_}
 use Prim.Native.Nat.{ℕ, _+_, _*_, _/_, _^_, _<_}
@@ -6,29 +6,8 @@ use lib.Dec.{eqb, leb}
 use lib.IntN.{ℤ}
 use lib.ListN.{length}
 use lib.Signed.{mag}
-use Rattle.numbers.specs.Number.{numberAt, bytesOf}
-use Rattle.signed.specs.Signed.{int8, int16, unsigned}
-
-abbrev pub int8uAt : List ℕ → ℕ → ℕ
-int8uAt d at = numberAt d at 1
-
-abbrev pub int8sAt : List ℕ → ℕ → ℤ
-int8sAt d at = int8 (numberAt d at 1)
-
-abbrev pub int16uAt : List ℕ → ℕ → ℕ
-int16uAt d at = numberAt d at 2
-
-abbrev pub int16sAt : List ℕ → ℕ → ℤ
-int16sAt d at = int16 (numberAt d at 2)
-
-abbrev pub int32uAt : List ℕ → ℕ → ℕ
-int32uAt d at = numberAt d at 4
-
-abbrev pub fp32At : List ℕ → ℕ → ℕ
-fp32At d at = numberAt d at 4
-
-abbrev pub fp64At : List ℕ → ℕ → ℕ
-fp64At d at = numberAt d at 8
+use Rattle.numbers.specs.Number.{bytesOf}
+use Rattle.signed.specs.Signed.{unsigned}
 
 -- a row: a type, by how many bytes it takes, and a value of it; the type may be signed
 pub data Row : Type 0 where

@@ -1,42 +1,9 @@
-// The types of the sources' tables: read at an offset, as the bits to write, and rows of them packed one after the other.
+// Rows of the sources' tables, packed one after the other.
 ghost use mathlib.Core.Path.{_≡_};
 ghost use mathlib.Core.Bool.{true};
 ghost use Prim.Native.Nat.{_≤_};
 ghost use lib.ListN.{length};
-ghost use Rattle.signed.specs.Signed.{unsigned};
-ghost use Rattle.rows.specs.Layout.{int8uAt, int8sAt, int16sAt, laid, total, short, exact, packs, packed};
-
-// The fields of types that `octets` has no reader for. Past the end they are 0.
-pub fn int8u_at(body: &[u8], at: usize) -> u8
-    ensures { λ r. ⌜ r ≡ int8uAt (now (body .entry)) at ⌝ }
-{
-    numbers::number_at(body, at, 1) as u8
-}
-
-pub fn int8s_at(body: &[u8], at: usize) -> i8
-    ensures { λ r. ⌜ r ≡ int8sAt (now (body .entry)) at ⌝ }
-{
-    signed::int8_of(int8u_at(body, at))
-}
-
-pub fn int16s_at(body: &[u8], at: usize) -> i16
-    ensures { λ r. ⌜ r ≡ int16sAt (now (body .entry)) at ⌝ }
-{
-    signed::int16_of(numbers::u16_at(body, at))
-}
-
-// The bits of signed numbers, as words.
-pub fn int8s_bits(z: i8) -> u64
-    ensures { λ r. ⌜ r ≡ unsigned 8 z ⌝ }
-{
-    signed::int8_byte(z) as u64
-}
-
-pub fn int16s_bits(z: i16) -> u64
-    ensures { λ r. ⌜ r ≡ unsigned 16 z ⌝ }
-{
-    signed::int16_word(z) as u64
-}
+ghost use Rattle.rows.specs.Layout.{laid, total, short, exact, packs, packed};
 
 // Whether no width is above eight and they add up to the room; by what is left of it, since the sum could wrap.
 fn exactly(widths: &[usize], room: usize) -> bool

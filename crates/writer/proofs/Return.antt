@@ -15,9 +15,9 @@ use Rattle.line.specs.Table.Event.{message}
 use Rattle.line.specs.Calls.{Call, History, taken, offered, Every, Right, Message, line, Delivers}
 use Rattle.line.specs.Calls.History.{start, call}
 use Rattle.line.proofs.Demand3.{demand3, from-fresh}
-use Rattle.reader.specs.declared.Reader.{Reader}
-use Rattle.reader.specs.Posts.{Trace}
-use Rattle.reader.proofs.Demand3.{lift}
+use Rattle.record.specs.declared.Reader.{Reader}
+use Rattle.calls.specs.Calls.{Trace}
+use Rattle.calls.proofs.Demand3.{lift}
 use Rattle.writer.specs.Writing.{writtenOf, filledOf}
 use Rattle.writer.proofs.WritingLaws.{written-judged, written-back}
 

@@ -1,6 +1,6 @@
 // The frame of a message, written into a buffer that the caller lends.
 use encoding::Written;
-use reader::Reader;
+use record::Reader;
 ghost use mathlib.Core.Path.{_≡_};
 ghost use mathlib.Core.List.{_∷_, []};
 ghost use Prim.Native.Nat.{ℕ, _+_, _≤_};

@@ -4,7 +4,7 @@ use Prim.Native.Nat.{_≤_}
 use native.Mathlib.Omega.{arith}
 use borrow.Author.Needs.{needs}
 use lib.ListN.{length}
-use Rattle.reader.specs.View.{view}
+use Rattle.record.specs.View.{view}
 use Rattle.listing.specs.Text.{decimals}
 use Rattle.listing.proofs.LineLaws.{total-length, five-short}
 use Rattle.lister.specs.Listing.{totalOf}

@@ -8,7 +8,7 @@ use lib.ListN.{length, take, getD}
 use denote.Ref.{now}
 use Rattle.line.specs.Table.{pending}
 use Rattle.line.specs.Record.{stateOf}
-use Rattle.reader.specs.View.{placeOf}
+use Rattle.record.specs.View.{placeOf}
 use Rattle.reader.specs.Moving.{Pends}
 use Rattle.reader.specs.declared.Moving.{Moving}
 use Rattle.reader.proofs.Feeding.{goes-of}

@@ -9,7 +9,7 @@ use denote.Ref.{now}
 use mathlib.Core.Option.{Option}
 use Rattle.line.specs.Record.{Kept}
 use Rattle.reader.specs.Moving.{Busy, Finishes, turned, baseOf}
-use Rattle.reader.specs.declared.Head.{Head}
+use Rattle.record.specs.declared.Head.{Head}
 use Rattle.reader.specs.declared.Act.{Act}
 use Rattle.reader.specs.declared.Moved.{Moved}
 use Rattle.reader.specs.declared.Closed.{Closed}

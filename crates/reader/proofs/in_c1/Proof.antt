@@ -8,7 +8,7 @@ use denote.Ref.{now}
 use Rattle.line.specs.Frame.{modeOf, judge}
 use Rattle.line.specs.Table.{pending, ends, reopen}
 use Rattle.line.specs.Table.State.{F, FD, C0, C1, E, ED}
-use Rattle.reader.specs.View.{placeOf}
+use Rattle.record.specs.View.{placeOf}
 use Rattle.reader.specs.Moving.{Pends, Steps}
 use Rattle.reader.specs.declared.Moved.{Moved}
 use Rattle.reader.proofs.Stepping.{row-at}

@@ -8,7 +8,7 @@ use denote.Ref.{now}
 use Rattle.line.specs.Frame.{modeOf, judge}
 use Rattle.line.specs.Table.{pending, ends, reopen}
 use Rattle.line.specs.Table.State.{F, FD, C0, C1, E, ED}
-use Rattle.reader.specs.View.{placeOf}
+use Rattle.record.specs.View.{placeOf}
 use Rattle.reader.specs.Moving.{Pends, Steps}
 use Rattle.reader.specs.declared.Moved.{Moved}
 use Rattle.line.specs.Frame.{Class, classOf}
@@ -16,7 +16,8 @@ use Rattle.line.specs.Frame.Class.{dle, etx, sum, other}
 use Rattle.line.specs.Table.{next, refuse}
 use Rattle.line.proofs.Classes.{dle-is}
 use Rattle.reader.proofs.Stepping.{row-at}
-use Rattle.reader.proofs.Rows.{is-dle, in-place, steps-went, steps-refused}
+use Rattle.record.proofs.Data.{is-dle}
+use Rattle.reader.proofs.Rows.{in-place, steps-went, steps-refused}
 use mathlib.Core.List.{List}
 use Rattle.line.specs.Frame.{Mode}
 use Rattle.line.proofs.Reading.{is}

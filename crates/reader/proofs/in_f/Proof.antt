@@ -12,14 +12,15 @@ use Rattle.line.specs.Frame.{modeOf}
 use Rattle.line.specs.Table.{pending, next, refuse}
 use Rattle.line.specs.Table.State.{F, FD}
 use Rattle.line.proofs.Mirror.{PlaceOk, IdOk}
-use Rattle.reader.specs.View.{placeOf}
+use Rattle.record.specs.View.{placeOf}
 use Rattle.reader.specs.Moving.{Pends, Sound, Fits, Goes}
 use Rattle.reader.specs.declared.Moving.{Moving}
 use Rattle.reader.specs.declared.Moved.{Moved}
 use Rattle.reader.proofs.Stepping.{row-at}
 use Rattle.reader.proofs.Feeding.{goes-of, then-goes, then-stop}
 use Rattle.reader.proofs.Bulk.{inner, silent-within, pends-within, pends-F, F-other}
-use Rattle.reader.proofs.Rows.{is-dle, in-place, fits-back, steps-went, steps-refused, full-join}
+use Rattle.record.proofs.Data.{is-dle}
+use Rattle.reader.proofs.Rows.{in-place, fits-back, steps-went, steps-refused, full-join}
 use Rattle.reader.proofs.in_f.Statement.{statement}
 use Rattle.reader.proofs.in_f.Tie as tie
 

@@ -8,14 +8,15 @@ use denote.Ref.{now}
 use Rattle.line.specs.Frame.{modeOf, judge}
 use Rattle.line.specs.Table.{pending, ends, reopen}
 use Rattle.line.specs.Table.State.{F, FD, C0, C1, E, ED}
-use Rattle.reader.specs.View.{placeOf}
+use Rattle.record.specs.View.{placeOf}
 use Rattle.reader.specs.Moving.{Pends, Steps}
 use Rattle.reader.specs.declared.Moved.{Moved}
 use lib.ListN.{set, length-set}
 use Rattle.line.specs.Table.{join, refuse}
 use Rattle.line.proofs.Classes.{class-other}
 use Rattle.reader.proofs.Stepping.{row-at}
-use Rattle.reader.proofs.Rows.{is-dle, is-etx, is-sum, row-mode, mode-summed, in-place, steps-went, steps-refused, steps-reopened, steps-ended, steps-stored, full-join}
+use Rattle.record.proofs.Data.{is-dle, is-etx, is-sum}
+use Rattle.reader.proofs.Rows.{row-mode, mode-summed, in-place, steps-went, steps-refused, steps-reopened, steps-ended, steps-stored, full-join}
 use Rattle.reader.proofs.in_fd.Statement.{statement}
 use Rattle.reader.proofs.in_fd.Tie as tie
 

@@ -10,14 +10,15 @@ use Rattle.line.specs.Frame.{modeOf}
 use Rattle.line.specs.Table.{pending}
 use Rattle.line.specs.Table.State.{WD}
 use Rattle.line.proofs.Mirror.{PlaceOk, W-ok}
-use Rattle.reader.specs.View.{placeOf}
+use Rattle.record.specs.View.{placeOf}
 use Rattle.reader.specs.Moving.{Pends, Sound, Fits, Goes}
 use Rattle.reader.specs.declared.Moving.{Moving}
 use Rattle.reader.specs.declared.Moved.{Moved}
 use Rattle.reader.proofs.Stepping.{row-at}
 use Rattle.reader.proofs.Feeding.{goes-of, then-goes, then-stop}
 use Rattle.reader.proofs.Bulk.{outer, silent-wait}
-use Rattle.reader.proofs.Rows.{is-dle, in-place, fits-back, steps-went}
+use Rattle.record.proofs.Data.{is-dle}
+use Rattle.reader.proofs.Rows.{in-place, fits-back, steps-went}
 use Rattle.reader.proofs.in_w.Statement.{statement}
 use Rattle.reader.proofs.in_w.Tie as tie
 

@@ -12,16 +12,15 @@ returns c =
     let f = c .before .before in
     rw (fresh-refused _ (f .fresh .result) (f .fresh .ensures) (c .if1 .taken) .0)
 
-count-from-requires : tie.Need-count-from-requires
-count-from-requires c κs =
-    let f = c .before .before .before in
-    fresh-good _ (f .fresh .result) (f .fresh .ensures) (c .before .if1 .left) .1
+count-events-requires : tie.Need-count-events-requires
+count-events-requires c κs = search needs
 
 returns-2 : tie.Need-returns-2
 returns-2 c =
     let i = c .before .before in
     let f = i .before .before in
-    rw (fresh-good _ (f .fresh .result) (f .fresh .ensures) (i .if1 .left) .0) (c .count-from .ensures)
+    let g = fresh-good _ (f .fresh .result) (f .fresh .ensures) (i .if1 .left) in
+    rw (g .0) (c .count-events .ensures .rest (g .1 .0) (g .1 .1) (λ o. absurd o))
 
 pub count-spec : {M : Type 1} → statement M
-count-spec = tie.close (tie.spec fresh-requires returns count-from-requires returns-2)
+count-spec = tie.close (tie.spec fresh-requires returns count-events-requires returns-2)

@@ -1,0 +1,3 @@
+pub mod Single
+pub mod Demand3
+pub mod Slices

@@ -1,0 +1,88 @@
+-- A slice call that took n bytes leaves what n single steps leave: on the record in memory, by the contracts of the code alone.
+use mathlib.Core.Bool.{Bool, true, false, cond}
+use mathlib.Core.List.{List, [], _∷_}
+use mathlib.Core.Path.{_≡_, refl, sym, ap, _∙_, subst, subst⁻¹}
+use Prim.Native.Nat.{ℕ, suc, _+_, _≤_, _<_}
+use native.Mathlib.Omega.{arith}
+use borrow.Author.Tests.{leb-true, leb-false, ltb-true, ltb-false}
+use lib.Dec.{leb, ltb}
+use lib.ListN.{length, take}
+use lib.Seq.{length-take-le}
+use Rattle.line.specs.Table.{Event as Said}
+use Rattle.line.specs.Table.Event.{nothing, message, refusal}
+use Rattle.line.specs.Record.{Rec, Possible, Result, limit, eventOf, stepped, orStop, oneMore, walk}
+use Rattle.line.specs.Steps.{Steps as Seen}
+use Rattle.line.proofs.Mirror.{keeps-possible}
+use Rattle.line.proofs.SliceSteps.{possible-stable, slice-steps-only, walk-fits}
+use Rattle.record.specs.View.{view, partsOf, shown}
+use Rattle.reader.specs.Posts.{FeedPost}
+use Rattle.calls.specs.Calls.{StepPost, Steps}
+use Rattle.calls.specs.Calls.Steps.{last, more}
+use Rattle.record.specs.declared.Reader.{Reader}
+use Rattle.calls.specs.declared.Stepped.{Stepped}
+use Rattle.record.specs.declared.Fed.{Fed}
+use Rattle.calls.proofs.Demand3.{step-seen, feed-seen}
+
+-- a walk stays within the limit
+walk-limit : (bs : List ℕ) (v : Rec) → v .fed ≤ limit → v .fed + walk v bs .taken ≤ limit
+walk-limit [] v h = omega arith
+walk-limit (b ∷ bs) v h = by (ltb (v .fed) limit) refl (eventOf v b) (λ l. walk-limit bs (stepped v b) l)
+  where
+    x : Result
+    x = walk (stepped v b) bs
+
+    by : (t : Bool) → ltb (v .fed) limit ≡ t → (e : Said) → (v .fed + 1 ≤ limit → v .fed + 1 + x .taken ≤ limit)
+        → v .fed
+        + cond t (orStop e (oneMore x) (record { after = stepped v b; answer = e; taken = 1 }))
+        (record { after = v; answer = nothing; taken = 0 }) .taken ≤ limit
+    by false q e ih = omega arith
+    by true q nothing ih = let l = ltb-true (v .fed) limit q in omega (arith, ih (omega arith))
+    by true q (message i d n) ih = omega (arith, ltb-true (v .fed) limit q)
+    by true q (refusal w i n) ih = omega (arith, ltb-true (v .fed) limit q)
+
+-- single steps, seen through the view
+record Lifted (r : Reader) (bs : List ℕ) (y : Stepped) : Type 0 where
+  event : Said
+  said : partsOf (y .answer) ≡ shown event
+  steps : Seen (view r) bs (view (y .reader)) event
+
+lift-steps : {r : Reader} {bs : List ℕ} {y : Stepped} → Steps r bs y → r .head .mode ≤ 1 → Possible (view r) → r .head .fed + length bs ≤ limit
+    → Lifted r bs y
+lift-steps (last {r = r} {b = b} {x = x} p) g q l =
+    let w = p .rest g q (λ o. omega arith) in
+    record { event = eventOf (view r) b; said = w .1; steps = Seen.last (step-seen r b x (eventOf (view r) b) p (w .1)) }
+lift-steps (more {r = r} {b = b} {bs = bs} {x = x} y p s) g q l =
+    let w = p .rest g q (λ o. omega arith) in
+    let u = lift-steps s (rw (ap (λ (v : Rec). v .mode) (w .0)) g) (subst⁻¹ Possible (w .0) (keeps-possible (view r) b q))
+    (let f : y .reader .head .fed ≡ r .head .fed + 1 = ap (λ (v : Rec). v .fed) (w .0) in omega arith) in
+    record { event = u .event; said = u .said; steps = Seen.more (step-seen r b y (eventOf (view r) b) p (w .1)) (u .steps) }
+
+-- a slice call that took a byte passed questions 1 to 3
+module _ (r : Reader) (bs : List ℕ) (x : Fed) (q : FeedPost r bs x) (h : 0 < x .taken) where
+  low : r .head .mode ≤ 1
+  low = by (leb (r .head .mode) 1) refl
+    where
+      by : (t : Bool) → leb (r .head .mode) 1 ≡ t → r .head .mode ≤ 1
+      by true e = leb-true (r .head .mode) 1 e
+      by false e = absurd (let z : ⊥ = omega (arith, q .one (leb-false (r .head .mode) 1 e) .2) in z)
+
+  possible : Possible (view r)
+  possible = possible-stable (view r) (λ f. let z : ⊥ = omega (arith, q .two low f .2) in z)
+
+  room : 0 < length bs → r .head .fed < limit
+  room o = by (ltb (r .head .fed) limit) refl
+    where
+      by : (t : Bool) → ltb (r .head .fed) limit ≡ t → r .head .fed < limit
+      by true e = ltb-true (r .head .fed) limit e
+      by false e = absurd (let z : ⊥ = omega (arith, q .three low possible o (ltb-false (r .head .fed) limit e) .2) in z)
+
+  pub slice-steps : (y : Stepped) → Steps r (take (x .taken) bs) y
+      → (view (y .reader) ≡ view (x .reader)) × (partsOf (y .answer) ≡ partsOf (x .answer))
+  slice-steps y s =
+      let w = q .rest low possible room in
+      let fit = walk-fits bs (view r) in
+      let some : 0 < length bs = omega (arith, w .2) in
+      let n : length (take (x .taken) bs) ≡ x .taken = length-take-le (x .taken) bs (omega (arith, w .2)) in
+      let u = lift-steps s low possible (omega (arith, walk-limit bs (view r) (omega (arith, room some)), w .2)) in
+      let v = slice-steps-only (view r) bs (feed-seen r bs x (walk (view r) bs .answer) q (w .1)) h (u .steps) in
+      (v .0, u .said ∙ ap shown (v .1) ∙ sym (w .1))

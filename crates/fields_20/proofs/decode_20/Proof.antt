@@ -1,0 +1,33 @@
+-- `decode_20` meets its contract: by the refusal, then field by field.
+use mathlib.Core.Path.{sym, _∙_}
+use borrow.Author.Needs.{needs}
+use borrow.Author.Tests.{eq-eqb, ne-eqb}
+use Rattle.fields_20.specs.Fields.{read20}
+use Rattle.fields_20.proofs.decode_20.Statement.{statement}
+use Rattle.fields_20.proofs.decode_20.Tie as tie
+
+content-requires : tie.Need-content-requires
+content-requires c κs = search needs
+
+returns : tie.Need-returns
+unfolding read20
+returns c =
+    let e = c .before .content .ensures in
+    rw (ne-eqb _ _ (λ z. c .if1 .taken (e ∙ z)), e)
+
+byte-at-requires : tie.Need-byte-at-requires
+byte-at-requires c κs = search needs
+
+byte-at-requires-2 : tie.Need-byte-at-requires-2
+byte-at-requires-2 c κs = search needs
+
+returns-2 : tie.Need-returns-2
+unfolding read20
+returns-2 c =
+    let b = c .before in
+    let e = sym (b .before .before .content .ensures) ∙ b .before .if1 .left in
+    rw (eq-eqb _ _ e, e, b .byte-at .ensures, c .byte-at2 .ensures)
+
+pub decode-20-spec : {M : Type 1} → statement M
+decode-20-spec =
+    tie.close (tie.spec content-requires returns byte-at-requires byte-at-requires-2 returns-2)

@@ -1,0 +1,62 @@
+-- `encode_23` meets its contract: by the count, then as `deliver` has it.
+use mathlib.Core.Path.{refl, sym}
+use borrow.Author.Needs.{needs}
+use borrow.Author.Tests.{le-leb, lt-leb}
+use lib.Seq.{length-take-le}
+use mir.Facts.{toZ-ofZ}
+use mir.Syntax.{w8}
+use mir.Val.{SFits}
+use Rattle.fields_23.specs.Fields.{write23, fill23}
+use Rattle.fields_23.proofs.encode_23.Statement.{statement}
+use Rattle.fields_23.proofs.encode_23.Tie as tie
+
+hours : (c : tie.Start) → SFits w8 (c .args .f .hours)
+hours c = search needs
+
+minutes : (c : tie.Start) → SFits w8 (c .args .f .minutes)
+minutes c = search needs
+
+returns : tie.Need-returns
+unfolding write23 fill23
+returns c = rw (lt-leb _ _ (c .if1 .taken)) (refl, refl)
+
+int8-byte-requires : tie.Need-int8-byte-requires
+int8-byte-requires c κs = search needs
+
+int8-byte-requires-2 : tie.Need-int8-byte-requires-2
+int8-byte-requires-2 c κs = search needs
+
+array-share-prefix-all : tie.Need-array-share-prefix-all
+array-share-prefix-all c = search needs
+
+slice-aggregate-deliver : tie.Need-slice-aggregate-deliver
+slice-aggregate-deliver c = sym (length-take-le _ _ (search needs))
+
+deliver-requires : tie.Need-deliver-requires
+deliver-requires c κs = search needs
+
+same-length : tie.Need-same-length
+same-length c = search needs
+
+returns-2 : tie.Need-returns-2
+unfolding write23 fill23
+returns-2 c =
+    let p = c .before .before in
+    let m = p .before .before .before in
+    let h = m .before .before in
+    let n = h .before .before in
+    let g = n .before .before in
+    rw (le-leb _ _ (n .if1 .left), ← toZ-ofZ (hours g), ← toZ-ofZ (minutes g), ← h .int8-byte .ensures, ← m .int8-byte2 .ensures) (p .deliver .ensures)
+
+pub encode-23-spec : {M : Type 1} → statement M
+encode-23-spec =
+    tie.close
+    (tie.spec
+    returns
+    int8-byte-requires
+    int8-byte-requires-2
+    array-share-prefix-all
+    slice-aggregate-deliver
+    deliver-requires
+    same-length
+    returns-2)

@@ -1,0 +1,76 @@
+// 46h, time, date and zone, as fields and as data.
+// Decoding gives the fields of acceptable data; where the data is refused the fields are those of no data, all 0. Encoding lays the
+// fields out and delivers them, so that fields out of range are refused as their data would be.
+use encoding::Written;
+ghost use mathlib.Core.Path.{_≡_};
+ghost use Rattle.encoding.specs.Written.{writtenOf, filledOf};
+ghost use Rattle.rows.specs.Layout.{words};
+ghost use Rattle.fields_46.specs.Time.{timeOf, timeRows, bytes46, decoded46};
+
+// 46h: time, date and zone (000, Table 37).
+pub struct Time {
+    pub second: u32, // from the beginning of the week
+    pub day: u8,
+    pub month: u8,
+    pub year: u16,
+    pub hours: i8, // of the zone, as the minutes
+    pub minutes: i8,
+}
+
+pub struct Decoded46 {
+    pub refusal: u8,
+    pub fields: Time,
+}
+
+fn read_46(body: &[u8]) -> Time
+    ensures { λ r. ⌜ r ≡ timeOf (now (body .entry)) ⌝ }
+{
+    Time {
+        second: numbers::u32_at(body, 0),
+        day: types::int8u_at(body, 4),
+        month: types::int8u_at(body, 5),
+        year: numbers::u16_at(body, 6),
+        hours: types::int8s_at(body, 8),
+        minutes: types::int8s_at(body, 9),
+    }
+}
+
+pub fn decode_46(body: &[u8]) -> Decoded46
+    ensures { λ r. ⌜ r ≡ decoded46 (now (body .entry)) ⌝ }
+{
+    let refusal = kinds::content(0x46, body);
+    if refusal == 0 {
+        return Decoded46 {
+            refusal,
+            fields: read_46(body),
+        };
+    }
+    Decoded46 {
+        refusal,
+        fields: read_46(&body[..0]),
+    }
+}
+
+const WIDTHS_46: [usize; 6] = [4, 1, 1, 2, 1, 1];
+
+fn words_46(f: Time) -> [u64; 6]
+    ensures { λ r. ⌜ r ≡ words (timeRows f) ⌝ }
+{
+    [
+        f.second as u64,
+        f.day as u64,
+        f.month as u64,
+        f.year as u64,
+        types::int8s_bits(f.hours),
+        types::int8s_bits(f.minutes),
+    ]
+}
+
+pub fn encode_46(f: Time, buf: &mut [u8]) -> Written
+    ensures { λ r. ⌜ (r ≡ writtenOf 0x46 (bytes46 f) (now (buf .entry)))
+        × (now (buf .exit) ≡ filledOf 0x46 (bytes46 f) (now (buf .entry))) ⌝ }
+{
+    let mut body = [0u8; 10];
+    rows::pack(&words_46(f), &WIDTHS_46, &mut body);
+    encoding::deliver(0x46, &body, buf)
+}

@@ -1,0 +1,43 @@
+-- 4Ah: ionosphere parameters (000, Table 40).
+use mathlib.Core.Bool.{cond}
+use mathlib.Core.List.{List, [], _∷_}
+use Prim.Native.Nat.{ℕ}
+use lib.Dec.{eqb}
+use Rattle.kinds.specs.Kinds.{content}
+use Rattle.types.specs.Types.{int8uAt, fp32At}
+use Rattle.rows.specs.Layout.{Row, INT8U, FP32, joined}
+use Rattle.fields_4a.specs.declared.Ionosphere.{Ionosphere}
+use Rattle.fields_4a.specs.declared.Decoded4a.{Decoded4a}
+
+unfoldable pub ionosphereOf : List ℕ → Ionosphere
+ionosphereOf d = record {
+  alpha0 = fp32At d 0;
+  alpha1 = fp32At d 4;
+  alpha2 = fp32At d 8;
+  alpha3 = fp32At d 12;
+  beta0 = fp32At d 16;
+  beta1 = fp32At d 20;
+  beta2 = fp32At d 24;
+  beta3 = fp32At d 28;
+  reliable = int8uAt d 32;
+}
+
+abbrev pub ionosphereRows : Ionosphere → List Row
+ionosphereRows f =
+    FP32 (f .alpha0)
+    ∷ FP32 (f .alpha1)
+    ∷ FP32 (f .alpha2)
+    ∷ FP32 (f .alpha3)
+    ∷ FP32 (f .beta0)
+    ∷ FP32 (f .beta1)
+    ∷ FP32 (f .beta2)
+    ∷ FP32 (f .beta3)
+    ∷ INT8U (f .reliable)
+    ∷ []
+
+unfoldable pub bytes4A : Ionosphere → List ℕ
+bytes4A f = joined (ionosphereRows f)
+
+-- the fields of acceptable data; of any other those of no data, where every field is 0
+unfoldable pub decoded4A : List ℕ → Decoded4a
+decoded4A d = record { refusal = content 0x4A d; fields = ionosphereOf (cond (eqb (content 0x4A d) 0) d []) }

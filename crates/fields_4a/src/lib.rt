@@ -1,0 +1,85 @@
+// 4Ah, ionosphere parameters, as fields and as data.
+// Decoding gives the fields of acceptable data; where the data is refused the fields are those of no data, all 0. Encoding lays the
+// fields out and delivers them, so that fields out of range are refused as their data would be. FP fields are kept as their bits.
+use encoding::Written;
+ghost use mathlib.Core.Path.{_≡_};
+ghost use Rattle.encoding.specs.Written.{writtenOf, filledOf};
+ghost use Rattle.rows.specs.Layout.{words};
+ghost use Rattle.fields_4a.specs.Ionosphere.{ionosphereOf, ionosphereRows, bytes4A, decoded4A};
+
+// 4Ah: ionosphere parameters (000, Table 40).
+pub struct Ionosphere {
+    pub alpha0: u32,
+    pub alpha1: u32,
+    pub alpha2: u32,
+    pub alpha3: u32,
+    pub beta0: u32,
+    pub beta1: u32,
+    pub beta2: u32,
+    pub beta3: u32,
+    pub reliable: u8, // 255: the data is reliable
+}
+
+pub struct Decoded4a {
+    pub refusal: u8,
+    pub fields: Ionosphere,
+}
+
+fn read_4a(body: &[u8]) -> Ionosphere
+    ensures { λ r. ⌜ r ≡ ionosphereOf (now (body .entry)) ⌝ }
+{
+    Ionosphere {
+        alpha0: numbers::u32_at(body, 0),
+        alpha1: numbers::u32_at(body, 4),
+        alpha2: numbers::u32_at(body, 8),
+        alpha3: numbers::u32_at(body, 12),
+        beta0: numbers::u32_at(body, 16),
+        beta1: numbers::u32_at(body, 20),
+        beta2: numbers::u32_at(body, 24),
+        beta3: numbers::u32_at(body, 28),
+        reliable: types::int8u_at(body, 32),
+    }
+}
+
+pub fn decode_4a(body: &[u8]) -> Decoded4a
+    ensures { λ r. ⌜ r ≡ decoded4A (now (body .entry)) ⌝ }
+{
+    let refusal = kinds::content(0x4A, body);
+    if refusal == 0 {
+        return Decoded4a {
+            refusal,
+            fields: read_4a(body),
+        };
+    }
+    Decoded4a {
+        refusal,
+        fields: read_4a(&body[..0]),
+    }
+}
+
+const WIDTHS_4A: [usize; 9] = [4, 4, 4, 4, 4, 4, 4, 4, 1];
+
+fn words_4a(f: Ionosphere) -> [u64; 9]
+    ensures { λ r. ⌜ r ≡ words (ionosphereRows f) ⌝ }
+{
+    [
+        f.alpha0 as u64,
+        f.alpha1 as u64,
+        f.alpha2 as u64,
+        f.alpha3 as u64,
+        f.beta0 as u64,
+        f.beta1 as u64,
+        f.beta2 as u64,
+        f.beta3 as u64,
+        f.reliable as u64,
+    ]
+}
+
+pub fn encode_4a(f: Ionosphere, buf: &mut [u8]) -> Written
+    ensures { λ r. ⌜ (r ≡ writtenOf 0x4A (bytes4A f) (now (buf .entry)))
+        × (now (buf .exit) ≡ filledOf 0x4A (bytes4A f) (now (buf .entry))) ⌝ }
+{
+    let mut body = [0u8; 33];
+    rows::pack(&words_4a(f), &WIDTHS_4A, &mut body);
+    encoding::deliver(0x4A, &body, buf)
+}

@@ -1,0 +1,94 @@
+// 4Bh, GPS, GLONASS and UTC time scales, as fields and as data.
+// Decoding gives the fields of acceptable data; where the data is refused the fields are those of no data, all 0. Encoding lays the
+// fields out and delivers them, so that fields out of range are refused as their data would be. FP fields are kept as their bits.
+use encoding::Written;
+ghost use mathlib.Core.Path.{_≡_};
+ghost use Rattle.encoding.specs.Written.{writtenOf, filledOf};
+ghost use Rattle.rows.specs.Layout.{words};
+ghost use Rattle.fields_4b.specs.Scales.{scalesOf, scalesRows, bytes4B, decoded4B};
+
+// 4Bh: GPS, GLONASS and UTC time scales (002, Table 48).
+pub struct Scales {
+    pub a0: u64,
+    pub a1: u64,
+    pub tot: u32,
+    pub wnt: u16,
+    pub dt_ls: i16,
+    pub wn_lsf: u16,
+    pub dn: u16,
+    pub dt_lsf: i16,
+    pub gps_reliable: u8, // 255: GPS and UTC are reliable
+    pub na: u16, // N^A, the day of tau_c
+    pub tau_c: u64, // from GLONASS time to UTC(SU)
+    pub glonass_reliable: u8, // 255: GLONASS and UTC(SU) are reliable
+}
+
+pub struct Decoded4b {
+    pub refusal: u8,
+    pub fields: Scales,
+}
+
+fn read_4b(body: &[u8]) -> Scales
+    ensures { λ r. ⌜ r ≡ scalesOf (now (body .entry)) ⌝ }
+{
+    Scales {
+        a0: numbers::u64_at(body, 0),
+        a1: numbers::u64_at(body, 8),
+        tot: numbers::u32_at(body, 16),
+        wnt: numbers::u16_at(body, 20),
+        dt_ls: types::int16s_at(body, 22),
+        wn_lsf: numbers::u16_at(body, 24),
+        dn: numbers::u16_at(body, 26),
+        dt_lsf: types::int16s_at(body, 28),
+        gps_reliable: types::int8u_at(body, 30),
+        na: numbers::u16_at(body, 31),
+        tau_c: numbers::u64_at(body, 33),
+        glonass_reliable: types::int8u_at(body, 41),
+    }
+}
+
+pub fn decode_4b(body: &[u8]) -> Decoded4b
+    ensures { λ r. ⌜ r ≡ decoded4B (now (body .entry)) ⌝ }
+{
+    let refusal = kinds::content(0x4B, body);
+    if refusal == 0 {
+        return Decoded4b {
+            refusal,
+            fields: read_4b(body),
+        };
+    }
+    Decoded4b {
+        refusal,
+        fields: read_4b(&body[..0]),
+    }
+}
+
+const WIDTHS_4B: [usize; 12] = [8, 8, 4, 2, 2, 2, 2, 2, 1, 2, 8, 1];
+
+fn words_4b(f: Scales) -> [u64; 12]
+    ensures { λ r. ⌜ r ≡ words (scalesRows f) ⌝ }
+{
+    [
+        f.a0,
+        f.a1,
+        f.tot as u64,
+        f.wnt as u64,
+        types::int16s_bits(f.dt_ls),
+        f.wn_lsf as u64,
+        f.dn as u64,
+        types::int16s_bits(f.dt_lsf),
+        f.gps_reliable as u64,
+        f.na as u64,
+        f.tau_c,
+        f.glonass_reliable as u64,
+    ]
+}
+
+pub fn encode_4b(f: Scales, buf: &mut [u8]) -> Written
+    ensures { λ r. ⌜ (r ≡ writtenOf 0x4B (bytes4B f) (now (buf .entry)))
+        × (now (buf .exit) ≡ filledOf 0x4B (bytes4B f) (now (buf .entry))) ⌝ }
+{
+    let mut body = [0u8; 42];
+    rows::pack(&words_4b(f), &WIDTHS_4B, &mut body);
+    encoding::deliver(0x4B, &body, buf)
+}

@@ -1,0 +1,85 @@
+// EBh, GLONASS time scale parameters, as fields and as data.
+// Decoding gives the fields of acceptable data; where the data is refused the fields are those of no data, all 0. Encoding lays the
+// fields out and delivers them, so that fields out of range are refused as their data would be. FP fields are kept as their bits.
+use encoding::Written;
+ghost use mathlib.Core.Path.{_≡_};
+ghost use Rattle.encoding.specs.Written.{writtenOf, filledOf};
+ghost use Rattle.rows.specs.Layout.{words};
+ghost use Rattle.fields_eb.specs.GlonassTime.{glonassTimeOf, glonassTimeRows, bytesEB, decodedEB};
+
+// EBh: GLONASS time scale parameters (000, Table 57).
+pub struct GlonassTime {
+    pub tau_c: u64, // from GLONASS time to UTC(SU)
+    pub tau_gps: u32, // the fraction of GPS less GLONASS time
+    pub na: u16, // N^A, the day of the four years
+    pub n4: u8, // the four-year period
+    pub reliable: u8, // of the fields above: not 0 where reliable
+    pub kp: u8, // the expected second correction
+    pub b1: u32, // UT1 less UTC(SU)
+    pub b2: u32, // its change in a day
+    pub ut1_reliable: u8, // of kp, b1 and b2: not 0 where reliable
+}
+
+pub struct DecodedEb {
+    pub refusal: u8,
+    pub fields: GlonassTime,
+}
+
+fn read_eb(body: &[u8]) -> GlonassTime
+    ensures { λ r. ⌜ r ≡ glonassTimeOf (now (body .entry)) ⌝ }
+{
+    GlonassTime {
+        tau_c: numbers::u64_at(body, 0),
+        tau_gps: numbers::u32_at(body, 8),
+        na: numbers::u16_at(body, 12),
+        n4: types::int8u_at(body, 14),
+        reliable: types::int8u_at(body, 15),
+        kp: types::int8u_at(body, 16),
+        b1: numbers::u32_at(body, 17),
+        b2: numbers::u32_at(body, 21),
+        ut1_reliable: types::int8u_at(body, 25),
+    }
+}
+
+pub fn decode_eb(body: &[u8]) -> DecodedEb
+    ensures { λ r. ⌜ r ≡ decodedEB (now (body .entry)) ⌝ }
+{
+    let refusal = kinds::content(0xEB, body);
+    if refusal == 0 {
+        return DecodedEb {
+            refusal,
+            fields: read_eb(body),
+        };
+    }
+    DecodedEb {
+        refusal,
+        fields: read_eb(&body[..0]),
+    }
+}
+
+const WIDTHS_EB: [usize; 9] = [8, 4, 2, 1, 1, 1, 4, 4, 1];
+
+fn words_eb(f: GlonassTime) -> [u64; 9]
+    ensures { λ r. ⌜ r ≡ words (glonassTimeRows f) ⌝ }
+{
+    [
+        f.tau_c,
+        f.tau_gps as u64,
+        f.na as u64,
+        f.n4 as u64,
+        f.reliable as u64,
+        f.kp as u64,
+        f.b1 as u64,
+        f.b2 as u64,
+        f.ut1_reliable as u64,
+    ]
+}
+
+pub fn encode_eb(f: GlonassTime, buf: &mut [u8]) -> Written
+    ensures { λ r. ⌜ (r ≡ writtenOf 0xEB (bytesEB f) (now (buf .entry)))
+        × (now (buf .exit) ≡ filledOf 0xEB (bytesEB f) (now (buf .entry))) ⌝ }
+{
+    let mut body = [0u8; 26];
+    rows::pack(&words_eb(f), &WIDTHS_EB, &mut body);
+    encoding::deliver(0xEB, &body, buf)
+}

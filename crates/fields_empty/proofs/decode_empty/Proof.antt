@@ -1,0 +1,22 @@
+-- `decode_empty` meets its contract: in the family as `content` has it, outside it 10.
+use mathlib.Core.Path.{sym, _∙_}
+use borrow.Author.Needs.{needs}
+use Rattle.fields_empty.proofs.decode_empty.Statement.{statement}
+use Rattle.fields_empty.proofs.decode_empty.Tie as tie
+
+empty-kind-requires : tie.Need-empty-kind-requires
+empty-kind-requires c κs = search needs
+
+content-requires : tie.Need-content-requires
+content-requires c κs = search needs
+
+returns : tie.Need-returns
+returns c =
+    let k = c .before .before in
+    rw (sym (k .empty-kind .ensures) ∙ c .before .if1 .taken, c .content .ensures)
+
+returns-2 : tie.Need-returns-2
+returns-2 c = rw (sym (c .before .empty-kind .ensures) ∙ c .if1 .left)
+
+pub decode-empty-spec : {M : Type 1} → statement M
+decode-empty-spec = tie.close (tie.spec empty-kind-requires content-requires returns returns-2)

@@ -1,0 +1,107 @@
+-- Laws of counting: what one slice call of the reader comes to, in front of the rest.
+use mathlib.Core.Bool.{Bool, true, false, cond}
+use mathlib.Core.List.{List, [], _∷_}
+use mathlib.Core.Path.{_≡_, refl, sym, ap, _∙_, subst⁻¹}
+use Prim.Native.Nat.{ℕ, _+_, _≤_, _<_}
+use native.Mathlib.Nat.{zero-add}
+use native.Mathlib.Omega.{arith}
+use borrow.Author.Tests.{le-ltb, ltb-true, ltb-false}
+use lib.Dec.{ltb}
+use lib.ListN.{drop}
+use Rattle.line.specs.Table.{Event}
+use Rattle.line.specs.Table.Event.{nothing, message, refusal}
+use Rattle.line.specs.Record.{Rec, Possible, Result, limit, eventOf, stepped, orStop, walk}
+use Rattle.line.specs.Record as Record
+use Rattle.record.specs.declared.Reader.{Reader}
+use Rattle.record.specs.declared.Fed.{Fed}
+use Rattle.record.specs.View.{Parts, view, partsOf, shown}
+use Rattle.reader.specs.Posts.{FeedPost}
+use Rattle.lister.specs.Counting.{one, raised, countShown}
+use Rattle.lister.specs.Posts.{CountPost}
+use Rattle.lister.proofs.PieceLaws.{walk-mode, walk-possible}
+use Rattle.lister.proofs.FeedLaws.{passed}
+
+module _ (r : Rec) (b : ℕ) (bs : List ℕ) where
+  abbrev rest : Result
+  rest = walk (stepped r b) bs
+
+  -- one turn of a walk, by whether b can be counted and by its event
+  abbrev turned : Bool → Event → Result
+  turned t e =
+      cond t (orStop e (Record.oneMore rest) (record { after = stepped r b; answer = e; taken = 1 }))
+      (record { after = r; answer = nothing; taken = 0 })
+
+  by-call : (t : Bool) (e : Event) → raised (stepped r b) bs ≡ one (rest .answer) + raised (rest .after) (drop (rest .taken) bs)
+      → raised r (b ∷ bs) ≡ cond t (one e + raised (stepped r b) bs) 0
+      → raised r (b ∷ bs) ≡ one (turned t e .answer) + raised (turned t e .after) (drop (turned t e .taken) (b ∷ bs))
+  by-call false e h q = sym (zero-add (raised r (b ∷ bs)))
+  by-call true nothing h q = q ∙ zero-add (raised (stepped r b) bs) ∙ h
+  by-call true (message i d n) h q = q
+  by-call true (refusal v i n) h q = q
+
+  by-stop : (t : Bool) (e : Event) → turned t e .taken ≡ 0 → cond t (one e + raised (stepped r b) bs) 0 ≡ 0
+  by-stop false e h = refl
+  by-stop true nothing h = absurd (omega arith)
+  by-stop true (message i d n) h = absurd (omega arith)
+  by-stop true (refusal v i n) h = absurd (omega arith)
+
+raised-walk : (l : List ℕ) (r : Rec) → raised r l ≡ one (walk r l .answer) + raised (walk r l .after) (drop (walk r l .taken) l)
+raised-walk [] r = refl
+raised-walk (b ∷ bs) r = by-call r b bs (ltb (r .fed) limit) (eventOf r b) (raised-walk bs (stepped r b)) refl
+
+raised-none : (l : List ℕ) (r : Rec) → walk r l .taken ≡ 0 → raised r l ≡ 0
+raised-none [] r h = refl
+raised-none (b ∷ bs) r h = by-stop r b bs (ltb (r .fed) limit) (eventOf r b) h
+
+count-shown : (e : Event) → countShown (shown e .event) ≡ one e
+count-shown nothing = refl
+count-shown (message id d n) = refl
+count-shown (refusal v id n) = refl
+
+-- a full count takes nothing
+none-taken : (l : List ℕ) (r : Rec) → limit ≤ r .fed → walk r l .taken ≡ 0
+none-taken [] r h = refl
+none-taken (b ∷ bs) r h = rw (le-ltb (r .fed) limit h)
+
+-- the last call takes nothing: all is counted, or it is refused
+pub count-last : (r : Reader) (s : List ℕ) (x : Fed) → FeedPost r s x → x .taken ≡ 0 → CountPost r s 0
+count-last r s x q h =
+    record {
+      one = λ m. refl;
+      two = λ m f. refl;
+      three = λ m p o f. absurd o;
+      rest = λ m p o. sym (raised-none s (view r) (by m p (ltb (r .head .fed) limit) refl));
+    }
+  where
+    by : r .head .mode ≤ 1 → Possible (view r) → (t : Bool) → ltb (r .head .fed) limit ≡ t → walk (view r) s .taken ≡ 0
+    by m p true e = sym (q .rest m p (λ o. ltb-true (r .head .fed) limit e) .2) ∙ h
+    by m p false e = none-taken s (view r) (ltb-false (r .head .fed) limit e)
+
+-- a call that takes something, and then what is right from where it stopped
+pub count-more : (r : Reader) (s : List ℕ) (x : Fed) → FeedPost r s x → 0 < x .taken → (n : ℕ) → CountPost (x .reader) (drop (x .taken) s) n
+    → CountPost r s (countShown (x .answer .event) + n)
+count-more r s x q h n o =
+    record {
+      one = λ m. absurd (omega (arith, q .one m .2));
+      two = λ m f. absurd (omega (arith, q .two m f .2));
+      three = λ m p z f. absurd z;
+      rest = λ m p z.
+          let u : n ≡ raised (view (x .reader)) (drop (x .taken) s) = o .rest (rw mode-kept m) (kept p) (λ y. absurd y) in
+          (λ i. event i + u i)
+          ∙ (λ i. one (walk (view r) s .answer) + raised (w .0 i) (drop (w .2 i) s))
+          ∙ sym (raised-walk s (view r));
+    }
+  where
+    w : (view (x .reader) ≡ walk (view r) s .after)
+        × (partsOf (x .answer) ≡ shown (walk (view r) s .answer))
+        × (x .taken ≡ walk (view r) s .taken)
+    w = passed r s x q h
+
+    mode-kept : x .reader .head .mode ≡ r .head .mode
+    mode-kept = ap (λ (y : Rec). y .mode) (w .0) ∙ walk-mode s (view r)
+
+    kept : Possible (view r) → Possible (view (x .reader))
+    kept p = subst⁻¹ Possible (w .0) (walk-possible s (view r) p)
+
+    event : countShown (x .answer .event) ≡ one (walk (view r) s .answer)
+    event = ap (λ (y : Parts). countShown (y .event)) (w .1) ∙ count-shown (walk (view r) s .answer)

@@ -1,0 +1,22 @@
+-- How many events the bytes raise: the lines of their listing but for the total.
+use mathlib.Core.Bool.{cond}
+use mathlib.Core.List.{List, [], _∷_}
+use Prim.Native.Nat.{ℕ, _+_}
+use lib.Dec.{ltb}
+use Rattle.line.specs.Table.{Event, byEvent}
+use Rattle.line.specs.Record.{Rec, limit, eventOf, stepped}
+use Rattle.record.specs.declared.Event.{Event as Shown}
+use Rattle.record.specs.declared.Event.the-variants.{Nothing, Message, Refusal}
+
+abbrev pub one : Event → ℕ
+one e = byEvent e 0 (λ id d n. 1) (λ v id n. 1)
+
+abbrev pub raised : Rec → List ℕ → ℕ
+raised r [] = 0
+raised r (b ∷ bs) = cond (ltb (r .fed) limit) (one (eventOf r b) + raised (stepped r b) bs) 0
+
+-- of a private function: an event in memory
+abbrev pub countShown : Shown → ℕ
+countShown Nothing = 0
+countShown Message = 1
+countShown (Refusal v) = 1

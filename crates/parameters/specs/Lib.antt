@@ -1,2 +1,0 @@
-pub mod Ionosphere
-pub mod Scales

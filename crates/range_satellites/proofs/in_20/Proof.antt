@@ -1,0 +1,19 @@
+-- `in_20` meets its contract: each field is what its reader ensures.
+use borrow.Author.Needs.{needs}
+use Rattle.range_satellites.proofs.in_20.Statement.{statement}
+use Rattle.range_satellites.proofs.in_20.Tie as tie
+
+byte-at-requires : tie.Need-byte-at-requires
+byte-at-requires c κs = search needs
+
+byte-at-requires-2 : tie.Need-byte-at-requires-2
+byte-at-requires-2 c κs = search needs
+
+satellite-requires : tie.Need-satellite-requires
+satellite-requires c κs = search needs
+
+returns : tie.Need-returns
+returns c = rw (c .satellite .ensures, c .before .byte-at2 .ensures, c .before .before .byte-at .ensures)
+
+pub in-20-spec : {M : Type 1} → statement M
+in-20-spec = tie.close (tie.spec byte-at-requires byte-at-requires-2 satellite-requires returns)

@@ -1,0 +1,13 @@
+-- `in_eb` meets its contract: each field is what its reader ensures.
+use borrow.Author.Needs.{needs}
+use Rattle.range_times.proofs.in_eb.Statement.{statement}
+use Rattle.range_times.proofs.in_eb.Tie as tie
+
+byte-at-requires : tie.Need-byte-at-requires
+byte-at-requires c κs = search needs
+
+returns : tie.Need-returns
+returns c = rw (c .byte-at .ensures)
+
+pub in-eb-spec : {M : Type 1} → statement M
+in-eb-spec = tie.close (tie.spec byte-at-requires returns)

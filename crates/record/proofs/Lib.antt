@@ -1,0 +1,2 @@
+pub mod Data
+pub mod Question
