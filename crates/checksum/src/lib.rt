@@ -9,7 +9,7 @@ ghost use Rattle.octets.specs.Stuffing.{stuffed};
 ghost use Rattle.checksum.specs.Checksum.{shifted, shiftedBy, afterByte, afterBytes, checksum};
 
 // The register one place up: where a 1 leaves at the top, the divisor is taken away.
-pub fn shift(reg: u16) -> u16
+fn shift(reg: u16) -> u16
     ensures { λ r. ⌜ r ≡ shifted reg ⌝ }
 {
     if reg & 0x8000 == 0 {

@@ -1,2 +1,1 @@
 pub mod Posts
-pub mod Counting

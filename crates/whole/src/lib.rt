@@ -1,4 +1,4 @@
-// The listing of a whole slice, and the number of its events, by a fresh reader.
+// The listing of a whole slice, by a fresh reader.
 use encoding::Written;
 use record::Reader;
 ghost use mathlib.Core.Bool.{true};
@@ -9,7 +9,6 @@ ghost use Rattle.line.specs.Record.{fresh};
 ghost use Rattle.record.specs.View.{view};
 ghost use Rattle.lister.specs.Listing.{text};
 ghost use Rattle.lister.specs.Posts.{Good};
-ghost use Rattle.whole.specs.Counting.{countOf};
 ghost use Rattle.whole.specs.Posts.{listedOf, filledOf, measured, writtenIf};
 
 // Puts bytes into the buffer, where they are to be written.
@@ -81,16 +80,4 @@ pub fn list(mode: u8, s: &[u8], buf: &mut [u8]) -> Written
         return w;
     }
     list_parts(r, s, buf, true)
-}
-
-// The number of a slice's events, read by a fresh reader. A mode that has no reader has none.
-pub fn count(mode: u8, s: &[u8]) -> u64
-    ensures { λ n. ⌜ n ≡ countOf (fresh mode) (now (s .entry)) ⌝ }
-{
-    let made = Reader::fresh(mode);
-    if made.refusal != 0 {
-        return 0;
-    }
-    let r = made.reader;
-    lister::count_events(r, s)
 }

@@ -1,3 +1,2 @@
 pub mod FrameLength
 pub mod WritingLaws
-pub mod Return

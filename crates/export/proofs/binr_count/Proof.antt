@@ -1,8 +1,8 @@
--- `count` meets its contract: nothing where the fresh reader is refused, else the events of the slice.
+-- `export::binr_count` meets its contract: nothing where the fresh reader is refused, else the events of the slice.
 use borrow.Author.Needs.{needs}
 use Rattle.lister.proofs.FreshLaws.{fresh-refused, fresh-good}
-use Rattle.whole.proofs.count.Statement.{statement}
-use Rattle.whole.proofs.count.Tie as tie
+use Rattle.export.proofs.binr_count.Statement.{statement}
+use Rattle.export.proofs.binr_count.Tie as tie
 
 fresh-requires : tie.Need-fresh-requires
 fresh-requires c κs = search needs
@@ -22,5 +22,5 @@ returns-2 c =
     let g = fresh-good _ (f .fresh .result) (f .fresh .ensures) (i .if1 .left) in
     rw (g .0) (c .count-events .ensures .rest (g .1 .0) (g .1 .1) (λ o. absurd o))
 
-pub count-spec : {M : Type 1} → statement M
-count-spec = tie.close (tie.spec fresh-requires returns count-events-requires returns-2)
+pub binr-count-spec : {M : Type 1} → statement M
+binr-count-spec = tie.close (tie.spec fresh-requires returns count-events-requires returns-2)

@@ -16,10 +16,10 @@ use Rattle.line.specs.Calls.{Call, History, taken, offered, Every, Right, Messa
 use Rattle.line.specs.Calls.History.{start, call}
 use Rattle.line.proofs.Demand3.{demand3, from-fresh}
 use Rattle.record.specs.declared.Reader.{Reader}
-use Rattle.calls.specs.Calls.{Trace}
-use Rattle.calls.proofs.Demand3.{lift}
 use Rattle.writer.specs.Writing.{writtenOf, filledOf}
 use Rattle.writer.proofs.WritingLaws.{written-judged, written-back}
+use Rattle.calls.specs.Calls.{Trace}
+use Rattle.calls.proofs.Demand3.{lift}
 
 -- a call of the list answered the message, closed its frame length
 pub data Given (m : Mode) (x : Message) : History → Type 0 where
