@@ -6,76 +6,13 @@ use record::Answer;
 use record::Event;
 use record::Head;
 use record::Reader;
-ghost use mathlib.Core.Path.{_≡_};
 ghost use lib.ListN.{length};
-ghost use Prim.Native.Nat.{_≤_, _<_};
+ghost use Prim.Native.Nat.{_≤_};
 
 // A reader, and where the text so far ends.
 struct Logged {
     reader: Reader,
     at: usize,
-}
-
-fn digit(b: u8) -> u8
-    ensures { λ r. ⌜ r < 16 ⌝ }
-{
-    match b {
-        48..=57 => b - 48,
-        65..=70 => b - 55,
-        _ => 0,
-    }
-}
-
-// The byte that two digits stand for.
-fn octet(high: u8, low: u8) -> u8 {
-    digit(high) * 16 + digit(low)
-}
-
-// The end of the line that starts at a place.
-fn line_end(s: &[u8], from: usize) -> usize
-    requires { ⌜ from ≤ length (now s) ⌝ }
-    ensures { λ r. ⌜ (from ≤ r) × (r ≤ length (now (s .entry))) ⌝ }
-{
-    let mut at = from;
-    while at < s.len() {
-        if s[at] == b'\n' {
-            return at;
-        }
-        at += 1;
-    }
-    at
-}
-
-// The bytes of a line of digits, into the buffer's start.
-fn parse(s: &[u8], out: &mut [u8; 1024]) -> usize
-    requires { ⌜ length (now out) ≡ 1024 ⌝ }
-    ensures { λ r. ⌜ (r ≤ 1024) × (length (now (out .exit)) ≡ 1024) ⌝ }
-{
-    let mut i: usize = 0;
-    let mut n: usize = 0;
-    while i < s.len() {
-        if out.len() <= n {
-            return n;
-        }
-        let low = octets::byte_at(s, i + 1);
-        out[n] = octet(s[i], low);
-        n += 1;
-        if s.len() - i < 2 {
-            return n;
-        }
-        i += 2;
-    }
-    n
-}
-
-fn hex(n: u8) -> u8 {
-    if n < 10 {
-        48 + n
-    } else if n < 16 {
-        55 + n
-    } else {
-        63
-    }
 }
 
 // The functions below put text into a log from a place on and return the place after it; past the log's end nothing is put.
@@ -99,8 +36,8 @@ fn put_all(log: &mut [u8], at: usize, s: &[u8]) -> usize {
 }
 
 fn put_hex(log: &mut [u8], at: usize, b: u8) -> usize {
-    let to = put(log, at, hex(b / 16));
-    put(log, to, hex(b % 16))
+    let to = put(log, at, hexlines::hex(b / 16));
+    put(log, to, hexlines::hex(b % 16))
 }
 
 fn put_octets(log: &mut [u8], at: usize, s: &[u8]) -> usize {
@@ -337,7 +274,7 @@ fn run(message: &[u8]) {
 
 fn capture_line(s: &[u8]) {
     let mut bytes = [0u8; 1024];
-    let n = parse(s, &mut bytes);
+    let n = hexlines::parse(s, &mut bytes);
     run(&bytes[0..n]);
 }
 
@@ -347,7 +284,7 @@ fn main() {
     let s = &buf[..n];
     let mut at: usize = 0;
     while at < s.len() {
-        let end = line_end(s, at);
+        let end = hexlines::line_end(s, at);
         capture_line(&s[at..end]);
         if s.len() <= end {
             return;
