@@ -14,9 +14,10 @@ use Rattle.record.specs.declared.Reader.{Reader}
 use Rattle.record.specs.View.{view}
 use Rattle.listing.specs.Text.{writtenOf}
 use Rattle.listing.proofs.LineLaws.{read-back, written-within}
+use Rattle.totals.specs.Totals.{Counts, totalOf}
 use Rattle.lister.specs.declared.Part.{Part}
-use Rattle.lister.specs.Listing.{text, totalOf, longest, Piece, piece}
-use Rattle.lister.specs.Posts.{PartPost, Good, Counts}
+use Rattle.lister.specs.Listing.{text, longest, Piece, piece}
+use Rattle.lister.specs.Posts.{PartPost, Good}
 use Rattle.lister.proofs.PieceLaws.{text-piece, piece-mode, piece-possible, piece-end}
 
 -- the rest of a slice
@@ -86,12 +87,6 @@ called g s at b x b′ h k w q f c =
         × (x .length ≡ length (piece (length b) (view g) d .lines))
         × (b′ ≡ placed b 0 (piece (length b) (view g) d .lines))
     is = part-is g d b x b′ q′ c h
-
--- what is written lies within the buffer
-pub counted : (w : Written) (t b b′ : List ℕ) → w ≡ writtenOf t b → b′ ≡ placed b 0 t → Counts (w .length) b′
-counted w t b b′ e f =
-    let n : w .length ≤ length b′ = omega (arith, ap (λ (v : Written). v .length) e, written-within t b, ap length f, length-placed b 0 t) in
-    (n, sym (length-take-le (w .length) b′ n))
 
 -- a total that fits is written whole
 pub total-whole : (w : Written) (t b b′ : List ℕ) → w ≡ writtenOf t b → b′ ≡ placed b 0 t → length t ≤ length b

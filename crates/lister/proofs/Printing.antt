@@ -13,9 +13,10 @@ use Rattle.record.specs.declared.Reader.{Reader}
 use Rattle.record.specs.declared.Fresh.{Fresh}
 use Rattle.record.specs.View.{view}
 use Rattle.record.specs.Posts.{FreshPost}
+use Rattle.totals.specs.Totals.{Counts, totalOf}
 use Rattle.lister.specs.declared.Part.{Part}
-use Rattle.lister.specs.Listing.{lineOf, totalOf, text, longest, Piece, piece}
-use Rattle.lister.specs.Posts.{Counts, PartPost, Good, Prints}
+use Rattle.lister.specs.Listing.{lineOf, text, longest, Piece, piece}
+use Rattle.lister.specs.Posts.{PartPost, Good, Prints}
 use Rattle.lister.specs.Posts.Prints.{ended, full, part}
 use Rattle.lister.proofs.PieceLaws.{pieced, text-piece-more}
 use Rattle.lister.proofs.PartLaws.{part-is, part-good, part-lines}

@@ -6,14 +6,12 @@ use lib.Dec.{ltb}
 use lib.ListN.{length}
 use Rattle.line.specs.Table.{Event, byEvent}
 use Rattle.line.specs.Record.{Rec, limit, eventOf, stepped}
-use Rattle.listing.specs.Text.{eventLine, totalLine}
+use Rattle.listing.specs.Text.{eventLine}
+use Rattle.totals.specs.Totals.{totalOf}
 
 -- the line of an event at this offset: nothing yet has none, a message has number 0
 abbrev pub lineOf : ℕ → Event → List ℕ
 lineOf offset e = byEvent e [] (λ id d n. eventLine offset id 0 n) (λ v id n. eventLine offset id v n)
-
-abbrev pub totalOf : Rec → List ℕ
-totalOf r = totalLine (r .fed) (r .accepted) (r .refused) (r .outside) (r .pending)
 
 -- the listing of bytes: a line for each event, and the total at the end or before the first byte that can't be counted
 abbrev pub text : Rec → List ℕ → List ℕ

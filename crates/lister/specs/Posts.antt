@@ -14,12 +14,9 @@ use Rattle.record.specs.View.{view}
 use Rattle.listing.specs.Text.{eventLine}
 use Rattle.lister.specs.declared.Part.{Part}
 use Rattle.lister.specs.declared.Scanned.{Scanned}
-use Rattle.lister.specs.Listing.{totalOf, piece}
+use Rattle.totals.specs.Totals.{Counts, totalOf}
+use Rattle.lister.specs.Listing.{piece}
 use Rattle.lister.specs.Counting.{raised}
-
--- n bytes at the start of xs: what a caller has to know to lend them
-abbrev pub Counts : ℕ → List ℕ → Type 0
-Counts n xs = (n ≤ length xs) × (n ≡ length (take n xs))
 
 -- a call that took nothing yet
 abbrev pub begun : Reader → Fed

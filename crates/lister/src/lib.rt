@@ -12,9 +12,10 @@ ghost use lib.ListN.{length};
 ghost use Rattle.octets.specs.Placing.{placed};
 ghost use Rattle.record.specs.View.{view};
 ghost use Rattle.listing.specs.Text.{writtenOf};
-ghost use Rattle.lister.specs.Listing.{longest, totalOf};
+ghost use Rattle.totals.specs.Totals.{Counts};
+ghost use Rattle.lister.specs.Listing.{longest};
 ghost use Rattle.lister.specs.Counting.{countShown};
-ghost use Rattle.lister.specs.Posts.{begun, Counts, PartPost, CountPost, ScanPost, numberOf, lineIf};
+ghost use Rattle.lister.specs.Posts.{begun, PartPost, CountPost, ScanPost, numberOf, lineIf};
 
 // What a part of a listing took and wrote.
 pub struct Part {
@@ -166,13 +167,4 @@ pub fn count_events(r: Reader, s: &[u8]) -> u64
     let mut none = [0u8; 1];
     let x = scan(r, s, &mut none, false);
     x.events
-}
-
-// Writes the line of a reader's five counts.
-pub fn list_total(r: Reader, buf: &mut [u8]) -> Written
-    ensures { λ x. ⌜ (x ≡ writtenOf (totalOf (view r)) (now (buf .entry))) × (now (buf .exit) ≡ placed (now (buf .entry)) 0 (totalOf (view r))) ⌝ }
-    ensures { λ x. ⌜ Counts (x .length) (now (buf .exit)) × (length (totalOf (view r)) ≤ 64) ⌝ }
-{
-    let h = r.head;
-    listing::total_line(h.fed, h.accepted, h.refused, h.outside, h.pending, buf)
 }

@@ -25,7 +25,7 @@ fn list_chunk(r: Reader, s: &[u8], lines: &mut [u8]) -> Part {
 
 fn print_total(r: Reader) {
     let mut line = [0u8; 64];
-    let w = lister::list_total(r, &mut line);
+    let w = totals::list_total(r, &mut line);
     let n = w.length;
     io::write_all(1, &line[..n]);
 }

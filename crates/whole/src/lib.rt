@@ -44,7 +44,7 @@ fn list_parts(r: Reader, s: &[u8], buf: &mut [u8], write: bool) -> Written
         to = to + n;
         g = p.reader;
         if p.taken == 0 {
-            let w = lister::list_total(g, &mut lines);
+            let w = totals::list_total(g, &mut lines);
             let m = w.length;
             if buf.len() - to < m {
                 return Written {

@@ -5,7 +5,8 @@ use native.Mathlib.Omega.{arith}
 use borrow.Author.Needs.{needs}
 use lib.ListN.{length, take}
 use Rattle.record.specs.View.{view}
-use Rattle.lister.specs.Listing.{text, totalOf, longest}
+use Rattle.totals.specs.Totals.{totalOf}
+use Rattle.lister.specs.Listing.{text, longest}
 use Rattle.lister.proofs.PartLaws.{Listed, called, total-whole}
 use Rattle.whole.specs.Posts.{writtenIf}
 use Rattle.whole.proofs.Parts.{Parts, too-long, fits-whole, over-still, total-rest, total-over, total-written, part-over, part-next}

@@ -7,10 +7,10 @@ use lib.ListN.{length}
 use Rattle.record.specs.View.{view}
 use Rattle.listing.specs.Text.{decimals}
 use Rattle.listing.proofs.LineLaws.{total-length, five-short}
-use Rattle.lister.specs.Listing.{totalOf}
-use Rattle.lister.proofs.PartLaws.{counted}
-use Rattle.lister.proofs.list_total.Statement.{statement}
-use Rattle.lister.proofs.list_total.Tie as tie
+use Rattle.totals.specs.Totals.{totalOf}
+use Rattle.totals.proofs.TotalLaws.{counted}
+use Rattle.totals.proofs.list_total.Statement.{statement}
+use Rattle.totals.proofs.list_total.Tie as tie
 
 -- the counts are 32-bit numbers
 numbers-short : (g : tie.Start)
