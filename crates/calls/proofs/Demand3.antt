@@ -1,15 +1,14 @@
 -- Demand 3, of the record in memory: every list of calls on it, by the contracts of the code alone.
 use mathlib.Core.Bool.{Bool, true, false}
-use mathlib.Core.List.{List, [], _∷_}
-use mathlib.Core.Path.{_≡_, refl, sym, ap, _∙_, subst}
-use Prim.Native.Nat.{ℕ, _≤_, _<_}
+use mathlib.Core.List.{List}
+use mathlib.Core.Path.{_≡_, refl, sym, ap, _∙_}
+use Prim.Native.Nat.{ℕ}
 use native.Mathlib.Omega.{arith}
 use borrow.Author.Tests.{leb-true, leb-false}
 use lib.Dec.{leb}
-use lib.ListN.{length, take}
 use Rattle.line.specs.Table.{Event as Said}
 use Rattle.line.specs.Table.Event.{nothing, message, refusal}
-use Rattle.line.specs.Record.{Rec, Asked, Fresh, fresh}
+use Rattle.line.specs.Record.{fresh}
 use Rattle.line.specs.Record.Fresh.{made}
 use Rattle.line.specs.Record.{StepPost as StepSeen, FeedPost as FeedSeen}
 use Rattle.line.specs.Calls.{History, Demand3}
@@ -21,8 +20,7 @@ use Rattle.reader.specs.Posts.{FeedPost}
 use Rattle.calls.specs.Calls.{StepPost, Trace}
 use Rattle.calls.specs.Calls.Trace.{begun, stepped, fed}
 use Rattle.record.specs.declared.Reader.{Reader}
-use Rattle.record.specs.declared.Event.{Event}
-use Rattle.record.specs.declared.Event.the-variants.{Nothing, Message, Refusal}
+use Rattle.record.specs.declared.Event.the-variants.{Refusal}
 use Rattle.calls.specs.declared.Stepped.{Stepped}
 use Rattle.record.specs.declared.Fed.{Fed}
 use Rattle.record.specs.declared.Fresh.{Fresh as Made}

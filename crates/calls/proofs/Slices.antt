@@ -2,7 +2,7 @@
 use mathlib.Core.Bool.{Bool, true, false, cond}
 use mathlib.Core.List.{List, [], _∷_}
 use mathlib.Core.Path.{_≡_, refl, sym, ap, _∙_, subst, subst⁻¹}
-use Prim.Native.Nat.{ℕ, suc, _+_, _≤_, _<_}
+use Prim.Native.Nat.{ℕ, _+_, _≤_, _<_}
 use native.Mathlib.Omega.{arith}
 use borrow.Author.Tests.{leb-true, leb-false, ltb-true, ltb-false}
 use lib.Dec.{leb, ltb}
@@ -16,7 +16,7 @@ use Rattle.line.proofs.Mirror.{keeps-possible}
 use Rattle.line.proofs.SliceSteps.{possible-stable, slice-steps-only, walk-fits}
 use Rattle.record.specs.View.{view, partsOf, shown}
 use Rattle.reader.specs.Posts.{FeedPost}
-use Rattle.calls.specs.Calls.{StepPost, Steps}
+use Rattle.calls.specs.Calls.{Steps}
 use Rattle.calls.specs.Calls.Steps.{last, more}
 use Rattle.record.specs.declared.Reader.{Reader}
 use Rattle.calls.specs.declared.Stepped.{Stepped}

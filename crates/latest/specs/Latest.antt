@@ -6,7 +6,7 @@ use Prim.Native.Nat.{ℕ}
 use lib.Dec.{eqb}
 use lib.ListN.{length}
 use Rattle.line.specs.Table.Event.{message}
-use Rattle.line.specs.Record.{Kept, Fit, idOf, update}
+use Rattle.line.specs.Record.{Kept, Fit, update}
 use Rattle.line.specs.Record.Kept.{k43, k46, k4A, k4B, kEB}
 use Rattle.latest.specs.declared.Latest.{Latest}
 

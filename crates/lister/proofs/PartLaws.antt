@@ -5,7 +5,7 @@ use Prim.Native.Nat.{ℕ, _+_, _-_, _≤_}
 use native.Mathlib.Omega.{arith}
 use borrow.Author.Tests.{le-ltb}
 use lib.ListN.{length, take, drop, length-drop}
-use lib.Seq.{take-all, length-take-le, drop-drop}
+use lib.Seq.{take-all, drop-drop}
 use Rattle.octets.specs.Placing.{placed}
 use Rattle.octets.proofs.PlacingLaws.{length-placed}
 use Rattle.encoding.specs.declared.Written.{Written}
@@ -13,7 +13,7 @@ use Rattle.line.specs.Record.{Rec, Possible}
 use Rattle.record.specs.declared.Reader.{Reader}
 use Rattle.record.specs.View.{view}
 use Rattle.listing.specs.Text.{writtenOf}
-use Rattle.listing.proofs.LineLaws.{read-back, written-within}
+use Rattle.listing.proofs.LineLaws.{read-back}
 use Rattle.totals.specs.Totals.{Counts, totalOf}
 use Rattle.lister.specs.declared.Part.{Part}
 use Rattle.lister.specs.Listing.{text, longest, Piece, piece}

@@ -1,5 +1,4 @@
-// The listing of bytes: a line for each event that the reader's slice call raises, and the total.
-use encoding::Written;
+// The events that the reader's slice call raises: a line for each, and how many there are.
 use record::Answer;
 use record::Event;
 use record::Fed;
@@ -10,8 +9,6 @@ ghost use Prim.Native.Nat.{_≤_};
 ghost use lib.Dec.{ltb};
 ghost use lib.ListN.{length};
 ghost use Rattle.octets.specs.Placing.{placed};
-ghost use Rattle.record.specs.View.{view};
-ghost use Rattle.listing.specs.Text.{writtenOf};
 ghost use Rattle.totals.specs.Totals.{Counts};
 ghost use Rattle.lister.specs.Listing.{longest};
 ghost use Rattle.lister.specs.Counting.{countShown};

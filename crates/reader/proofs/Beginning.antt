@@ -1,32 +1,26 @@
 -- From a possible record to the moving numbers, and from what a run says to what the slice call returns.
-use mathlib.Core.Bool.{Bool, true, false, cond}
-use mathlib.Core.List.{List, [], _∷_}
-use mathlib.Core.Option.{Option}
-use mathlib.Core.Path.{_≡_, refl, sym, ap, _∙_, subst, subst⁻¹}
+use mathlib.Core.Bool.{cond}
+use mathlib.Core.List.{List}
+use mathlib.Core.Path.{_≡_, sym, ap, _∙_, subst, subst⁻¹}
 use Prim.Native.Nat.{ℕ, _+_, _≤_, _<_}
 use native.Mathlib.Omega.{arith}
-use borrow.Author.Tests.{ltb-true, ltb-false, lt-ltb, eqb-true, eqb-false}
+use borrow.Author.Tests.{ltb-true, ltb-false, eqb-true, eqb-false}
 use lib.Dec.{eqb, ltb}
 use lib.ListN.{length, take}
 use Rattle.line.specs.Frame.{modeOf}
-use Rattle.line.specs.Table.{Event as Said}
-use Rattle.line.specs.Table.Event.{nothing, message, refusal}
-use Rattle.line.specs.Record.{Rec, Kept, Place, Possible, Result, limit, stateOf, eventOf, stepped, orStop, oneMore, walk}
+use Rattle.line.specs.Record.{Kept, Possible, Result, limit, stateOf, walk}
 use Rattle.line.proofs.Mirror.{PlaceOk}
-use Rattle.record.specs.View.{placeOf, dataOf, view, partsOf, shown}
+use Rattle.record.specs.View.{placeOf, dataOf, view, shown}
 use Rattle.latest.specs.Latest.{latestOf}
 use Rattle.reader.specs.Posts.{Reads}
-use Rattle.reader.specs.Moving.{Base, see, placeNow, startOf, baseOf, turned, Pends, Sound, Fits, Ran, Finishes, storedBy}
-use Rattle.record.specs.declared.Head.{Head}
+use Rattle.reader.specs.Moving.{see, placeNow, startOf, baseOf, turned, Pends, Sound, Fits, Ran, Finishes, storedBy}
 use Rattle.latest.specs.declared.Latest.{Latest}
 use Rattle.record.specs.declared.Reader.{Reader}
-use Rattle.reader.specs.declared.Moving.{Moving}
 use Rattle.reader.specs.declared.Moved.{Moved}
 use Rattle.reader.specs.declared.Closed.{Closed}
-use Rattle.reader.specs.declared.Act.the-variants.{Quiet}
 use Rattle.record.proofs.Data.{tested, data-take, data-length}
 use Rattle.reader.proofs.Feeding.{closes}
-use Rattle.record.proofs.Question.{Asks, Clauses, clauses-open, of-possible}
+use Rattle.record.proofs.Question.{Asks, clauses-open, of-possible}
 
 -- in W and WD the data do not count
 place-low : (n id : ℕ) (d d′ : List ℕ) (c1 c2 : ℕ) → n < 2 → placeOf n id d c1 c2 ≡ placeOf n id d′ c1 c2

@@ -1,7 +1,7 @@
 -- Bytes that are no DLE, many at once: outside frames and inside data.
 use mathlib.Core.Bool.{cond}
 use mathlib.Core.List.{List, [], _∷_, _++_, append-assoc, append-nil}
-use mathlib.Core.Path.{_≡_, refl, sym, ap, _∙_, subst}
+use mathlib.Core.Path.{_≡_, refl, sym, ap, _∙_}
 use Prim.Native.Nat.{ℕ, zero, suc, _+_, _-_, _≤_, _<_}
 use native.Mathlib.Nat.{add-zero, le-refl}
 use native.Mathlib.Numerals.{add-one}
@@ -16,7 +16,7 @@ use Rattle.octets.proofs.StuffingLaws.{stuffed-nil, stuffed-other, stuffed-appe
 use Rattle.octets.proofs.PlainLaws.{Plain}
 use Rattle.line.specs.Frame.{Mode, Class, modeOf, classOf}
 use Rattle.line.specs.Frame.Class.{dle, etx, sum, other}
-use Rattle.line.specs.Table.{State, Step, capacity, pending, go, skip, join, refuse, next}
+use Rattle.line.specs.Table.{pending, go, skip, join, refuse, next}
 use Rattle.line.specs.Table.State.{W, F}
 use Rattle.line.specs.Table.Event.{nothing}
 use Rattle.line.specs.Record.{Rec, Result, limit, stateOf, walk}
@@ -24,9 +24,9 @@ use Rattle.line.specs.Record.Place.{at as on}
 use Rattle.line.proofs.Classes.{dle-is}
 use Rattle.line.proofs.Reading.{is}
 use Rattle.record.specs.View.{placeOf}
-use Rattle.reader.specs.Moving.{NoDle, Copied, Base, Out, one, see, placeNow, ahead, onward, Pends}
+use Rattle.reader.specs.Moving.{NoDle, Copied, Base, one, see, ahead, Pends}
 use Rattle.reader.specs.declared.Moving.{Moving}
-use Rattle.reader.proofs.Stepping.{byStep, one-by}
+use Rattle.reader.proofs.Stepping.{one-by}
 use Rattle.record.proofs.Data.{tested}
 use Rattle.reader.proofs.Feeding.{one-step, Silent}
 

@@ -1,7 +1,7 @@
 -- What is left to do of a slice: one byte, the end, the limit.
 use mathlib.Core.Bool.{Bool, true, false, cond}
-use mathlib.Core.List.{List, [], _∷_}
-use mathlib.Core.Option.{Option, none}
+use mathlib.Core.List.{List}
+use mathlib.Core.Option.{none}
 use mathlib.Core.Path.{_≡_, refl, sym, ap, _∙_, subst, subst⁻¹}
 use Prim.Native.Nat.{ℕ, suc, _+_, _-_, _≤_, _<_}
 use native.Mathlib.Numerals.{add-one}
@@ -12,9 +12,9 @@ use lib.ListN.{length, drop, getD, drop-of-length-le}
 use lib.Seq.{drop-cons}
 use Rattle.line.specs.Frame.{modeOf, classOf}
 use Rattle.line.proofs.Mirror.{PlaceOk, sound}
-use Rattle.line.specs.Table.{Event as Said, pending, verdict}
+use Rattle.line.specs.Table.{Event as Said, pending}
 use Rattle.line.specs.Table.Event.{nothing, message, refusal}
-use Rattle.line.specs.Record.{Rec, Kept, Result, limit, stateOf, eventOf, stepped, oneMore, orStop, walk}
+use Rattle.line.specs.Record.{Rec, Result, limit, stateOf, eventOf, stepped, oneMore, orStop, walk}
 use Rattle.record.proofs.Data.{tested}
 use Rattle.reader.specs.Moving.{Base, Out, one, see, placeNow, turned, ended, verdictOf, ahead, onward, Pends, Sound, Fits, Steps, Goes, Ran}
 use Rattle.reader.specs.declared.Moving.{Moving}

@@ -1,31 +1,26 @@
 -- What an act comes to is what the table makes of it.
 use mathlib.Core.Bool.{Bool, true, false, cond}
-use mathlib.Core.List.{List, [], _∷_, _++_}
+use mathlib.Core.List.{List, []}
 use mathlib.Core.Option.{Option}
-use mathlib.Core.Path.{_≡_, refl, sym, ap, _∙_, subst}
-use Prim.Native.Nat.{ℕ, _+_, _-_, _≤_, _<_}
+use mathlib.Core.Path.{_≡_, refl, sym, _∙_, subst}
+use Prim.Native.Nat.{ℕ, _+_, _-_, _≤_}
 use native.Mathlib.Nat.{add-zero}
 use native.Mathlib.Omega.{arith}
 use borrow.Author.Tests.{eqb-true}
 use lib.Dec.{eqb}
-use lib.ListN.{length, take, replicate, length-append, length-replicate}
-use lib.Seq.{take-append-le, length-take-le}
+use lib.ListN.{length, take}
 use Rattle.kinds.specs.Kinds.{content}
 use Rattle.line.specs.Frame.{Mode, modeOf, agrees, judge, Acceptable}
 use Rattle.line.specs.Frame.Mode.{plain, summed}
-use Rattle.line.specs.Table.{verdict}
 use Rattle.line.specs.Table.State.{W, F}
 use Rattle.line.specs.Table.Event.{nothing, message, refusal}
 use Rattle.line.specs.Record.{Kept, update}
 use Rattle.line.specs.Record.Place.{at as on}
-use Rattle.record.specs.View.{placeOf, dataOf, shown}
-use Rattle.record.proofs.Data.{data-take, data-length}
-use Rattle.reader.specs.Moving.{Base, Out, see, closedBy, ended, verdictOf, turned, baseOf, headWith, concludedBy, storedBy, seeHead, Finishes}
+use Rattle.record.specs.View.{placeOf, dataOf}
+use Rattle.record.proofs.Data.{data-take}
+use Rattle.reader.specs.Moving.{see, closedBy, ended, verdictOf, baseOf, headWith, concludedBy, storedBy, seeHead, Finishes}
 use Rattle.record.specs.declared.Head.{Head}
 use Rattle.reader.specs.declared.Moving.{Moving}
-use Rattle.reader.specs.declared.Closed.{Closed}
-use Rattle.reader.specs.declared.Act.{Act}
-use Rattle.reader.specs.declared.Act.the-variants.{Quiet, Refused, Reopened, Ended}
 use Rattle.record.specs.declared.Event.the-variants.{Nothing, Message, Refusal}
 
 -- where questions 9 to 12 are yes, 10 to 12 are

@@ -10,20 +10,16 @@ use lib.ListN.{length, take, set}
 use lib.Seq.{length-take-le, take-suc-set}
 use Rattle.octets.specs.Stuffing.{stuffed}
 use Rattle.octets.proofs.StuffingLaws.{stuffed-nil}
-use Rattle.line.specs.Frame.{Mode, Class, modeOf, classOf, judge}
-use Rattle.line.specs.Frame.Mode.{plain, summed}
-use Rattle.line.specs.Frame.Class.{dle, etx, sum}
+use Rattle.line.specs.Frame.{Mode, Class, modeOf, classOf}
+use Rattle.line.specs.Frame.Mode.{summed}
 use Rattle.line.specs.Table.{State, Step, capacity, pending, go, skip, refuse, reopen, ends, join, row, next}
-use Rattle.line.specs.Table.State.{W, WD, F, FD, C0, C1, E, ED}
-use Rattle.line.specs.Table.Event.{nothing, refusal}
-use Rattle.line.specs.Record.{Place, limit, stateOf}
+use Rattle.line.specs.Table.State.{W, F}
+use Rattle.line.specs.Table.Event.{refusal}
+use Rattle.line.specs.Record.{stateOf}
 use Rattle.line.specs.Record.Place.{at as on}
-use Rattle.line.proofs.Classes.{class-dle, class-etx, class-sum}
 use Rattle.record.specs.View.{placeOf}
-use Rattle.reader.specs.Moving.{Base, Out, one, see, placeNow, turned, verdictOf, Pends, Fits, Busy, Steps, went, passed, opened, shut}
+use Rattle.reader.specs.Moving.{one, placeNow, turned, verdictOf, Pends, Fits, Steps, went, passed, opened, shut}
 use Rattle.reader.specs.declared.Moving.{Moving}
-use Rattle.reader.specs.declared.Moved.{Moved}
-use Rattle.reader.specs.declared.Act.{Act}
 use Rattle.reader.specs.declared.Act.the-variants.{Quiet, Refused, Reopened, Ended}
 use Rattle.reader.proofs.Stepping.{here, quiet-says, closed-says, ended-says, pending-went}
 

@@ -1,25 +1,22 @@
 -- One byte of the table, outcome by outcome, on the record of the moving numbers.
 use mathlib.Core.Bool.{Bool, true, false}
-use mathlib.Core.List.{List, [], _∷_, _++_}
-use mathlib.Core.Path.{_≡_, refl, sym, ap, _∙_, subst}
-use Prim.Native.Nat.{ℕ, _+_, _-_, _≤_, _<_}
+use mathlib.Core.List.{List, []}
+use mathlib.Core.Path.{_≡_, refl, sym, ap, _∙_}
+use Prim.Native.Nat.{ℕ, _+_, _-_}
 use native.Mathlib.Nat.{add-zero}
 use native.Mathlib.Omega.{arith}
 use lib.Dec.{eqb}
 use lib.ListN.{length, take}
-use Rattle.octets.specs.Stuffing.{stuffed}
 use Rattle.octets.proofs.StuffingLaws.{stuffed-nil}
-use Rattle.line.specs.Frame.{Mode, Class, modeOf, classOf, judge}
-use Rattle.line.specs.Table.{State, Event as Said, Step, pending, go, skip, refuse, reopen, verdict, ends, row, next, accepts, refuses}
+use Rattle.line.specs.Frame.{Mode, Class, modeOf, classOf}
+use Rattle.line.specs.Table.{State, Event as Said, Step, pending, go, verdict, ends, row, next, accepts, refuses}
 use Rattle.line.specs.Table.State.{W, F}
-use Rattle.line.specs.Table.Event.{nothing, message, refusal}
+use Rattle.line.specs.Table.Event.{nothing}
 use Rattle.line.specs.Record.{Rec, Place, stateOf, update}
 use Rattle.line.specs.Record.Place.{at as on}
 use Rattle.line.proofs.Account.{balanced}
-use Rattle.record.specs.View.{placeOf}
-use Rattle.reader.specs.Moving.{Base, Out, one, see, placeNow, turned, closedBy, ended, verdictOf, Pends}
+use Rattle.reader.specs.Moving.{Base, Out, one, see, placeNow, closedBy, ended}
 use Rattle.reader.specs.declared.Moving.{Moving}
-use Rattle.reader.specs.declared.Act.the-variants.{Quiet, Refused, Reopened, Ended}
 
 -- a record and an answer by a step of the table
 abbrev pub byStep : Rec → Step → Out

@@ -1,6 +1,6 @@
 -- Contracts of the private functions of the slice call. Nobody has to believe them: the public contracts are proved through them.
 use mathlib.Core.Bool.{Bool, true, false, cond}
-use mathlib.Core.List.{List, [], _∷_, _++_}
+use mathlib.Core.List.{List, [], _++_}
 use mathlib.Core.Option.{Option}
 use mathlib.Core.Path.{_≡_}
 use Prim.Native.Nat.{ℕ, _+_, _-_, _≤_, _<_}
@@ -8,13 +8,13 @@ use lib.Dec.{eqb, ltb}
 use lib.ListN.{length, take, drop, getD}
 use Rattle.octets.specs.Stuffing.{DLE}
 use Rattle.line.specs.Frame.{modeOf, judge, Acceptable}
-use Rattle.line.specs.Table.{Event as Said, State, pending, verdict}
+use Rattle.line.specs.Table.{Event as Said, pending, verdict}
 use Rattle.line.specs.Table.State.{W, F}
 use Rattle.line.specs.Table.Event.{nothing, message, refusal}
 use Rattle.line.proofs.Mirror.{PlaceOk}
 use Rattle.line.specs.Record.{Rec, Kept, Place, Result, limit, stateOf, update, eventOf, stepped, orStop, walk}
 use Rattle.line.specs.Record.Place.{at as on}
-use Rattle.record.specs.View.{placeOf, dataOf, Parts, shown}
+use Rattle.record.specs.View.{placeOf, dataOf, shown}
 use Rattle.record.specs.declared.Head.{Head}
 use Rattle.reader.specs.declared.Moving.{Moving}
 use Rattle.reader.specs.declared.Act.{Act}

@@ -1,7 +1,6 @@
 -- Question 2: the clauses as the code asks them, and as the paper has them.
 use mathlib.Core.Bool.{Bool, true, false, _&&_}
 use mathlib.Core.List.{List}
-use mathlib.Core.Option.{Option, none, some}
 use mathlib.Core.Path.{_≡_, refl, sym, ap, _∙_, subst, subst⁻¹}
 use Prim.Native.Nat.{ℕ, suc, zero-le, _+_, _≤_, _<_}
 use native.Mathlib.Omega.{arith}
@@ -15,16 +14,13 @@ use Rattle.kinds.proofs.OnlyLaws.{test-4A, test-4B}
 use Rattle.line.specs.Frame.{Mode, modeOf, classOf}
 use Rattle.line.specs.Frame.Mode.{plain, summed}
 use Rattle.line.specs.Frame.Class.{other}
-use Rattle.line.specs.Table.{State, pending}
+use Rattle.line.specs.Table.{pending}
 use Rattle.line.specs.Record.{Place, Known, Fit, Possible, stateOf}
-use Rattle.line.specs.Record.Kept.{k4A, k4B}
-use Rattle.line.specs.Record.Place.{at as on, unknown}
+use Rattle.line.specs.Record.Place.{unknown}
 use Rattle.line.proofs.Mirror.{PlaceOk}
 use Rattle.record.specs.View.{placeOf, dataOf, view}
 use Rattle.latest.specs.Latest.{perhaps, LatestOk}
 use Rattle.record.specs.Question.{Opened, Plausible, Held}
-use Rattle.record.specs.declared.Head.{Head}
-use Rattle.latest.specs.declared.Latest.{Latest}
 use Rattle.record.specs.declared.Reader.{Reader}
 use Rattle.record.proofs.Data.{tested, data-take, data-length}
 

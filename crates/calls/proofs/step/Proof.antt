@@ -1,15 +1,10 @@
 -- `calls::step` meets its contract: a slice of one byte is a step.
-use mathlib.Core.Path.{_≡_, refl, sym, ap, _∙_, subst, subst⁻¹}
-use mathlib.Core.List.{List}
-use Prim.Native.Nat.{ℕ, _+_, _-_, _≤_, _<_}
+use mathlib.Core.Path.{ap, _∙_}
+use Prim.Native.Nat.{_-_}
 use native.Mathlib.Omega.{arith}
 use borrow.Author.Needs.{needs}
-use lib.ListN.{length, take, getD}
-use denote.Ref.{now}
-use mathlib.Core.List.{[], _∷_}
-use Rattle.line.specs.Record.{limit}
 use Rattle.record.specs.View.{view, shown}
-use Rattle.calls.proofs.Single.{Single, single}
+use Rattle.calls.proofs.Single.{single}
 use Rattle.calls.proofs.step.Statement.{statement}
 use Rattle.calls.proofs.step.Tie as tie
 

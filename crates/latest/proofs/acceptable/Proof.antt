@@ -1,11 +1,6 @@
 -- `latest::acceptable` meets its contract: kind by kind.
-use mathlib.Core.Path.{_≡_, refl, sym, ap, _∙_, subst, subst⁻¹}
-use mathlib.Core.List.{List}
-use Prim.Native.Nat.{ℕ, _+_, _-_, _≤_, _<_}
-use native.Mathlib.Omega.{arith}
+use Prim.Native.Nat.{_-_}
 use borrow.Author.Needs.{needs}
-use lib.ListN.{length, take, getD}
-use denote.Ref.{now}
 use Rattle.latest.proofs.Deciding.{decided-yes, decided-no, decides-by}
 use Rattle.latest.proofs.acceptable.Statement.{statement}
 use Rattle.latest.proofs.acceptable.Tie as tie

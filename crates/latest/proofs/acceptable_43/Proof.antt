@@ -1,5 +1,4 @@
 -- `acceptable_43` meets its contract: a kind with one length is accepted by its ranges.
-use mathlib.Core.Path.{_≡_}
 use borrow.Author.Needs.{needs}
 use Rattle.kinds.proofs.OnlyLaws.{test-43}
 use Rattle.latest.proofs.acceptable_43.Statement.{statement}

@@ -1,11 +1,7 @@
 -- `latest::fits_46` meets its contract: by whether there is one.
-use mathlib.Core.Path.{_≡_, refl, sym, ap, _∙_, subst, subst⁻¹}
-use mathlib.Core.List.{List}
-use Prim.Native.Nat.{ℕ, _+_, _-_, _≤_, _<_}
-use native.Mathlib.Omega.{arith}
+use mathlib.Core.Path.{subst, subst⁻¹}
+use Prim.Native.Nat.{_-_}
 use borrow.Author.Needs.{needs}
-use lib.ListN.{length, take, getD}
-use denote.Ref.{now}
 use Rattle.kinds.specs.Kinds.{content}
 use Rattle.line.specs.Record.{Fit}
 use Rattle.latest.specs.Latest.{perhaps}

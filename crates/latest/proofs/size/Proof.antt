@@ -1,5 +1,5 @@
 -- `latest::size` meets its contract: arm by arm.
-use mathlib.Core.Path.{_≡_, refl, sym, ap}
+use mathlib.Core.Path.{refl, sym, ap}
 use borrow.Author.Tests.{ne-eqb}
 use Rattle.latest.specs.Latest.{sizeFor}
 use Rattle.latest.proofs.size.Statement.{statement}

@@ -1,15 +1,13 @@
 -- `reader::in_c0` meets its contract: the table in C0.
-use mathlib.Core.Path.{_≡_, refl, sym, ap, _∙_, subst}
-use Prim.Native.Nat.{ℕ, _+_, _-_, _≤_, _<_}
+use mathlib.Core.Path.{refl, sym, subst}
+use Prim.Native.Nat.{_-_}
 use native.Mathlib.Omega.{arith}
 use borrow.Author.Needs.{needs}
-use lib.ListN.{length, take}
-use denote.Ref.{now}
-use Rattle.line.specs.Frame.{modeOf, judge}
-use Rattle.line.specs.Table.{pending, ends, reopen}
-use Rattle.line.specs.Table.State.{F, FD, C0, C1, E, ED}
+use lib.ListN.{take}
+use Rattle.line.specs.Frame.{modeOf}
+use Rattle.line.specs.Table.State.{C1}
 use Rattle.record.specs.View.{placeOf}
-use Rattle.reader.specs.Moving.{Pends, Steps}
+use Rattle.reader.specs.Moving.{Steps}
 use Rattle.reader.specs.declared.Moved.{Moved}
 use Rattle.reader.proofs.Stepping.{row-at}
 use Rattle.reader.proofs.Rows.{in-place, steps-went}

@@ -1,15 +1,14 @@
 -- `reader::in_e` meets its contract: the table in E.
 use mathlib.Core.Path.{_≡_, refl, sym, ap, _∙_, subst}
-use Prim.Native.Nat.{ℕ, _+_, _-_, _≤_, _<_}
+use Prim.Native.Nat.{ℕ, _+_, _-_}
 use native.Mathlib.Omega.{arith}
 use borrow.Author.Needs.{needs}
-use lib.ListN.{length, take}
-use denote.Ref.{now}
-use Rattle.line.specs.Frame.{modeOf, judge}
-use Rattle.line.specs.Table.{pending, ends, reopen}
-use Rattle.line.specs.Table.State.{F, FD, C0, C1, E, ED}
+use lib.ListN.{take}
+use Rattle.line.specs.Frame.{modeOf}
+use Rattle.line.specs.Table.{pending}
+use Rattle.line.specs.Table.State.{E, ED}
 use Rattle.record.specs.View.{placeOf}
-use Rattle.reader.specs.Moving.{Pends, Steps}
+use Rattle.reader.specs.Moving.{Steps}
 use Rattle.reader.specs.declared.Moved.{Moved}
 use Rattle.line.specs.Frame.{Class, classOf}
 use Rattle.line.specs.Frame.Class.{dle, etx, sum, other}

@@ -1,19 +1,18 @@
 -- `reader::in_ed` meets its contract: the table in ED.
 use mathlib.Core.Path.{_≡_, refl, sym, ap, _∙_, subst}
-use Prim.Native.Nat.{ℕ, _+_, _-_, _≤_, _<_}
+use Prim.Native.Nat.{_+_, _-_}
 use native.Mathlib.Omega.{arith}
 use borrow.Author.Needs.{needs}
-use lib.ListN.{length, take}
-use denote.Ref.{now}
+use lib.ListN.{take}
 use Rattle.line.specs.Frame.{modeOf, judge}
-use Rattle.line.specs.Table.{pending, ends, reopen}
-use Rattle.line.specs.Table.State.{F, FD, C0, C1, E, ED}
+use Rattle.line.specs.Table.{pending, ends}
+use Rattle.line.specs.Table.State.{E}
 use Rattle.record.specs.View.{placeOf}
-use Rattle.reader.specs.Moving.{Pends, Steps}
+use Rattle.reader.specs.Moving.{Steps}
 use Rattle.reader.specs.declared.Moved.{Moved}
 use mathlib.Core.Logic.{inl, inr}
 use Rattle.line.specs.Frame.Mode.{summed}
-use Rattle.line.specs.Table.{next, refuse}
+use Rattle.line.specs.Table.{refuse}
 use Rattle.line.proofs.Mirror.{ModeOk}
 use Rattle.line.proofs.Classes.{class-other}
 use Rattle.reader.proofs.Stepping.{row-at}

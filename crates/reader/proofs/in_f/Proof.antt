@@ -1,7 +1,7 @@
 -- `reader::in_f` meets its contract: the bytes stored raise nothing, and then a DLE, a byte too many or the end.
 use mathlib.Core.Path.{_≡_, refl, sym, ap, _∙_, subst, subst⁻¹}
 use mathlib.Core.List.{List}
-use Prim.Native.Nat.{ℕ, _+_, _-_, _≤_, _<_}
+use Prim.Native.Nat.{ℕ, _+_, _-_, _≤_}
 use native.Mathlib.Omega.{arith}
 use borrow.Author.Needs.{needs}
 use lib.ListN.{length, take, getD}
@@ -10,10 +10,10 @@ use lib.ListN.{length-take}
 use lib.Seq.{length-take-le}
 use Rattle.line.specs.Frame.{modeOf}
 use Rattle.line.specs.Table.{pending, next, refuse}
-use Rattle.line.specs.Table.State.{F, FD}
+use Rattle.line.specs.Table.State.{FD}
 use Rattle.line.proofs.Mirror.{PlaceOk, IdOk}
 use Rattle.record.specs.View.{placeOf}
-use Rattle.reader.specs.Moving.{Pends, Sound, Fits, Goes}
+use Rattle.reader.specs.Moving.{Sound, Fits, Goes}
 use Rattle.reader.specs.declared.Moving.{Moving}
 use Rattle.reader.specs.declared.Moved.{Moved}
 use Rattle.reader.proofs.Stepping.{row-at}

@@ -1,15 +1,15 @@
 -- `reader::in_fd` meets its contract: the table in FD.
 use mathlib.Core.Path.{_≡_, refl, sym, ap, _∙_, subst}
-use Prim.Native.Nat.{ℕ, _+_, _-_, _≤_, _<_}
+use Prim.Native.Nat.{_+_, _-_, _≤_}
 use native.Mathlib.Omega.{arith}
 use borrow.Author.Needs.{needs}
-use lib.ListN.{length, take}
+use lib.ListN.{take}
 use denote.Ref.{now}
 use Rattle.line.specs.Frame.{modeOf, judge}
-use Rattle.line.specs.Table.{pending, ends, reopen}
-use Rattle.line.specs.Table.State.{F, FD, C0, C1, E, ED}
+use Rattle.line.specs.Table.{pending, ends}
+use Rattle.line.specs.Table.State.{F, C0}
 use Rattle.record.specs.View.{placeOf}
-use Rattle.reader.specs.Moving.{Pends, Steps}
+use Rattle.reader.specs.Moving.{Steps}
 use Rattle.reader.specs.declared.Moved.{Moved}
 use lib.ListN.{set, length-set}
 use Rattle.line.specs.Table.{join, refuse}

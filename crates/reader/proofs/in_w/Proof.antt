@@ -1,10 +1,10 @@
 -- `reader::in_w` meets its contract: the bytes skipped raise nothing, and then a DLE or the end.
 use mathlib.Core.Path.{_≡_, refl, sym, ap, _∙_, subst, subst⁻¹}
 use mathlib.Core.List.{List}
-use Prim.Native.Nat.{ℕ, _+_, _-_, _≤_, _<_}
+use Prim.Native.Nat.{ℕ, _+_, _-_}
 use native.Mathlib.Omega.{arith}
 use borrow.Author.Needs.{needs}
-use lib.ListN.{length, take, getD}
+use lib.ListN.{getD}
 use denote.Ref.{now}
 use Rattle.line.specs.Frame.{modeOf}
 use Rattle.line.specs.Table.{pending}

@@ -1,13 +1,9 @@
 -- `reader::in_wd` meets its contract: the table in WD.
-use mathlib.Core.Path.{_≡_, refl, sym, ap, _∙_, subst}
-use Prim.Native.Nat.{ℕ, _+_, _-_, _≤_, _<_}
-use native.Mathlib.Omega.{arith}
+use mathlib.Core.Path.{refl, sym, ap, _∙_, subst}
+use Prim.Native.Nat.{_-_}
 use borrow.Author.Needs.{needs}
-use lib.ListN.{length, take}
-use denote.Ref.{now}
-use Rattle.line.specs.Frame.{modeOf, judge}
-use Rattle.line.specs.Table.{pending, ends, reopen}
-use Rattle.line.specs.Table.State.{F, FD, C0, C1, E, ED}
+use Rattle.line.specs.Frame.{modeOf}
+use Rattle.line.specs.Table.{pending}
 use Rattle.record.specs.View.{placeOf}
 use Rattle.reader.specs.Moving.{Pends, Steps}
 use Rattle.reader.specs.declared.Moved.{Moved}

@@ -1,10 +1,9 @@
 -- `reader::read` meets its contract: what the run leaves to do is done.
-use mathlib.Core.Path.{_≡_, refl, sym, ap, _∙_, subst, subst⁻¹}
-use mathlib.Core.List.{List}
-use Prim.Native.Nat.{ℕ, _+_, _-_, _≤_, _<_}
+use mathlib.Core.Path.{_≡_, sym, ap, _∙_, subst}
+use Prim.Native.Nat.{_-_}
 use native.Mathlib.Omega.{arith}
 use borrow.Author.Needs.{needs}
-use lib.ListN.{length, take, getD}
+use lib.ListN.{length, take}
 use denote.Ref.{now}
 use Rattle.latest.specs.Latest.{latestOf}
 use Rattle.reader.specs.Moving.{Pends, Sound, Fits, Ran, startOf, storedBy}

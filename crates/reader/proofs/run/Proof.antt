@@ -1,10 +1,9 @@
 -- `reader::run` meets its contract: the invariant says what is left to do.
-use mathlib.Core.Path.{_≡_, refl, sym, ap, _∙_, subst, subst⁻¹}
-use mathlib.Core.List.{List}
-use Prim.Native.Nat.{ℕ, _+_, _-_, _≤_, _<_}
+use mathlib.Core.Path.{_≡_, sym, subst}
+use Prim.Native.Nat.{_+_, _-_, _≤_}
 use native.Mathlib.Omega.{arith}
 use borrow.Author.Needs.{needs}
-use lib.ListN.{length, take, getD}
+use lib.ListN.{length}
 use denote.Ref.{now}
 use Rattle.reader.specs.Moving.{Pends, Sound, Fits}
 use Rattle.reader.proofs.Feeding.{Left, begin, Ends, left-again, ran-event, ran-through}

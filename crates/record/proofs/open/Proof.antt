@@ -1,11 +1,7 @@
 -- `record::open` meets its contract: clause by clause.
-use mathlib.Core.Path.{_≡_, refl, sym, ap, _∙_, subst, subst⁻¹}
-use mathlib.Core.List.{List}
-use Prim.Native.Nat.{ℕ, _+_, _-_, _≤_, _<_}
+use Prim.Native.Nat.{_-_}
 use native.Mathlib.Omega.{arith}
 use borrow.Author.Needs.{needs}
-use lib.ListN.{length, take, getD}
-use denote.Ref.{now}
 use Rattle.latest.proofs.Deciding.{decides-by}
 use Rattle.record.proofs.open.Statement.{statement}
 use Rattle.record.proofs.open.Tie as tie

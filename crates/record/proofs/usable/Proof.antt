@@ -1,12 +1,8 @@
 -- `record::usable` meets its contract: the three service codes are no identifiers.
-use mathlib.Core.Path.{_≡_, refl, sym, ap, _∙_, subst}
-use Prim.Native.Nat.{ℕ, _+_, _-_, _≤_, _<_}
+use mathlib.Core.Path.{_≡_, sym, _∙_}
+use Prim.Native.Nat.{ℕ, _-_}
 use native.Mathlib.Omega.{arith}
-use borrow.Author.Needs.{needs}
-use lib.ListN.{length, take}
-use denote.Ref.{now}
 use mathlib.Core.Logic.{inl, inr}
-use Rattle.line.specs.Frame.{Class, classOf}
 use Rattle.line.specs.Frame.Class.{dle, etx, sum, other}
 use Rattle.line.proofs.Classes.{class-other}
 use Rattle.record.proofs.Data.{is-dle, is-etx, is-sum}

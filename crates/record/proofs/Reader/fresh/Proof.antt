@@ -1,15 +1,13 @@
 -- `record::Reader::fresh` meets its contract: a blank record is fresh in mode 0 and 1.
-use mathlib.Core.Path.{_≡_, refl, sym, ap, _∙_, subst, subst⁻¹}
-use mathlib.Core.List.{List, []}
-use Prim.Native.Nat.{ℕ, _+_, _-_, _≤_, _<_}
+use mathlib.Core.Path.{_≡_, refl, sym, ap, _∙_}
+use mathlib.Core.List.{[]}
+use Prim.Native.Nat.{ℕ, _-_, _≤_}
 use native.Mathlib.Omega.{arith}
 use borrow.Author.Needs.{needs}
-use lib.ListN.{length, take, getD}
-use denote.Ref.{now}
 use mathlib.Core.Bool.{cond}
-use mathlib.Core.Option.{Option, none}
+use mathlib.Core.Option.{none}
 use borrow.Author.Tests.{le-leb}
-use Rattle.line.specs.Record.{Kept, Fresh, fresh}
+use Rattle.line.specs.Record.{Kept, fresh}
 use Rattle.line.specs.Record.Fresh.{made, refused}
 use Rattle.line.specs.Record.Kept.{k43, k46, k4A, k4B, kEB}
 use Rattle.record.specs.View.{placeOf, view}

@@ -1,5 +1,5 @@
 -- `record::Reader::refuse` meets its contract: the record as it was.
-use mathlib.Core.Path.{_≡_, refl}
+use mathlib.Core.Path.{refl}
 use Rattle.record.specs.View.{dataOf}
 use Rattle.record.proofs.Reader.refuse.Statement.{statement}
 use Rattle.record.proofs.Reader.refuse.Tie as tie
