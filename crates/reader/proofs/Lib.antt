@@ -1,6 +1,2 @@
-pub mod Stepping
-pub mod Feeding
-pub mod Bulk
-pub mod Rows
 pub mod Finishing
-pub mod Beginning
+pub mod Giving

@@ -1,2 +1,2 @@
 pub mod Posts
-pub mod Moving
+pub mod Closing

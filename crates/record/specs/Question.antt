@@ -1,13 +1,16 @@
--- The clauses of question 2 as the code asks them. `Question` of the proofs says that together they are `Possible` of `line`.
+-- The clauses of question 2 as the code asks them. `Asking` of the proofs says that together they are `Possible` of `line`.
 use mathlib.Core.List.{List}
 use mathlib.Core.Path.{_≡_}
 use Prim.Native.Nat.{ℕ, _+_, _≤_, _<_}
-use lib.ListN.{take}
+use lib.ListN.{length, take}
 use Rattle.octets.specs.Stuffing.{dles}
 use Rattle.line.specs.Frame.{classOf}
 use Rattle.line.specs.Frame.Class.{other}
+use Rattle.line.specs.Record.{Possible, limit}
 use Rattle.latest.specs.Latest.{LatestOk}
+use Rattle.record.specs.View.{view}
 use Rattle.record.specs.declared.Head.{Head}
+use Rattle.record.specs.declared.Reader.{Reader}
 use Rattle.latest.specs.declared.Latest.{Latest}
 
 -- an identifier that is no service code
@@ -31,3 +34,21 @@ pub record Plausible (h : Head) (l : Latest) : Type 0 where
   pub latest : LatestOk l
   pub low : h .place < 2 → h .pending ≡ h .place
   pub opened : 2 ≤ h .place → Opened h
+
+abbrev pub recordOf : Head → Latest → List ℕ → Reader
+recordOf h l a = record { head = h; latest = l; bytes = a }
+
+-- a record of a reader
+pub record Valid (r : Reader) : Type 0 where
+  pub whole : length (r .bytes) ≡ 1024
+  pub possible : Possible (view r)
+
+-- the number v of the first question that refuses a call with n bytes, or 0: then all three are yes
+pub record Questions (r : Reader) (n v : ℕ) : Type 0 where
+  pub one : 1 < r .head .mode → v ≡ 1
+  pub two : r .head .mode ≤ 1 → (Valid r → ⊥) → v ≡ 2
+  pub three : r .head .mode ≤ 1 → Valid r → 0 < n → limit ≤ r .head .fed → v ≡ 3
+  pub rest : r .head .mode ≤ 1 → Valid r → (0 < n → r .head .fed < limit) → v ≡ 0
+  pub mode : v ≡ 0 → r .head .mode ≤ 1
+  pub valid : v ≡ 0 → Valid r
+  pub room : v ≡ 0 → 0 < n → r .head .fed < limit

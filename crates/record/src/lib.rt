@@ -6,7 +6,7 @@ ghost use lib.ListN.{length, take};
 ghost use Rattle.octets.specs.Stuffing.{dles};
 ghost use Rattle.latest.specs.Deciding.{Decides};
 ghost use Rattle.record.specs.Posts.{FreshPost, Refuses, blank as blankOf};
-ghost use Rattle.record.specs.Question.{Usable, Opened, Plausible, Held};
+ghost use Rattle.record.specs.Question.{Usable, Opened, Plausible, Questions, recordOf};
 
 // The numbers of the record. Mode and place are numbers, so that a wrong one can be refused.
 pub struct Head {
@@ -116,8 +116,8 @@ fn pending_of(h: Head, d: &[u8]) -> usize
     h.place as usize + (len + octets::count_dle(&d[..len]))
 }
 
-// Question 2, but for the pending bytes of an open frame. They need the array, and to pass it on is to copy it.
-pub fn plausible(h: Head, l: Latest) -> bool
+// Question 2, but for the pending bytes of an open frame.
+fn plausible(h: Head, l: Latest) -> bool
     ensures { λ r. ⌜ Decides (Plausible h l) r ⌝ }
 {
     if !balanced(h) {
@@ -133,6 +133,33 @@ pub fn plausible(h: Head, l: Latest) -> bool
         return false;
     }
     open(h)
+}
+
+// Questions 1 to 3, in order, of a call that offers n bytes to a record of these parts: the number of the first that refuses, or 0.
+// An array that is not 1,024 bytes long is no record's: 2.
+pub fn question(h: Head, l: Latest, d: &[u8], n: usize) -> u8
+    ensures { λ v. ⌜ Questions (recordOf h l (now (d .entry))) n v ⌝ }
+{
+    if 2 <= h.mode {
+        return 1;
+    }
+    if d.len() != 1024 {
+        return 2;
+    }
+    if !plausible(h, l) {
+        return 2;
+    }
+    if 2 <= h.place {
+        if h.pending as usize != pending_of(h, d) {
+            return 2;
+        }
+    }
+    if h.fed >= Reader::LIMIT {
+        if 0 < n {
+            return 3;
+        }
+    }
+    0
 }
 
 impl Reader {
@@ -217,20 +244,5 @@ impl Reader {
             answer: answer,
             taken: 0,
         }
-    }
-
-    // Question 2, the last clause for an open frame: pending is exactly its bytes, of which there is room for 1,024 in the array.
-    pub fn held(self) -> bool
-        ensures { λ r. ⌜ Decides ((self .head .len ≤ 1024) × Held (self .head) (self .bytes)) r ⌝ }
-    {
-        let h = self.head;
-        let d = self.bytes;
-        if 1024 < h.len {
-            return false;
-        }
-        if h.pending as usize == pending_of(h, &d) {
-            return true;
-        }
-        false
     }
 }

@@ -2,7 +2,7 @@
 use mathlib.Core.Path.{sym, ap, _∙_}
 use borrow.Author.Needs.{needs}
 use borrow.Author.Tests.{eq-eqb, ne-eqb}
-use Rattle.reader.specs.Moving.{concludedBy}
+use Rattle.reader.specs.Closing.{concludedBy}
 use Rattle.reader.proofs.conclude.Statement.{statement}
 use Rattle.reader.proofs.conclude.Tie as tie
 
