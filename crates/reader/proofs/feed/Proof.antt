@@ -33,7 +33,7 @@ returns c =
     let x = c .refuse .result in
     let same : x .reader ≡ r = c .refuse .ensures .same ∙ (λ i. record { head = r .head; latest = r .latest; bytes = p .same no .0 i }) in
     let by : (k : ℕ) → f .frame .result .refusal ≡ k → (x .reader ≡ r) × (partsOf (x .answer) ≡ shown (refusal k 0 0)) × (x .taken ≡ 0) =
-        λ k e. (same, c .refuse .ensures .said ∙ ap (λ (v : ℕ). shown (refusal v 0 0)) e, c .refuse .ensures .taken) in
+    λ k e. (same, c .refuse .ensures .said ∙ ap (λ (v : ℕ). shown (refusal v 0 0)) e, c .refuse .ensures .taken) in
     record {
       one = λ z. by 1 (p .asked .one z);
       two = λ z g. by 2 (p .asked .two z (λ v. g (v .possible)));
