@@ -3,14 +3,13 @@
 // A call that fills a buffer returns one number: the length, or where it is refused 2^64 less the refusal's number, which a caller
 // who reads the number as signed sees as that number with a minus.
 use encoding::Written;
-use record::Reader;
 ghost use mathlib.Core.Path.{_≡_};
 ghost use Rattle.kinds.specs.Kinds.{content};
 ghost use Rattle.line.specs.Record.{fresh};
+ghost use Rattle.lister.specs.Counting.{countOf};
 ghost use Rattle.writer.specs.Writing as Writing;
 ghost use Rattle.whole.specs.Posts as Listing;
 ghost use Rattle.export.specs.Answers.{answerOf};
-ghost use Rattle.export.specs.Counting.{countOf};
 
 // A length, or a refusal, as one number.
 fn answer(w: Written) -> u64
@@ -55,10 +54,5 @@ pub extern "C" fn binr_judge(id: u8, body: &[u8]) -> u8
 pub extern "C" fn binr_count(mode: u8, bytes: &[u8]) -> u64
     ensures { λ r. ⌜ r ≡ countOf (fresh mode) (now (bytes .entry)) ⌝ }
 {
-    let made = Reader::fresh(mode);
-    if made.refusal != 0 {
-        return 0;
-    }
-    let r = made.reader;
-    lister::count_events(r, bytes)
+    lister::count_events(mode, bytes)
 }

@@ -4,7 +4,8 @@ use mathlib.Core.List.{List, [], _∷_}
 use Prim.Native.Nat.{ℕ, _+_}
 use lib.Dec.{ltb}
 use Rattle.line.specs.Table.{Event, byEvent}
-use Rattle.line.specs.Record.{Rec, limit, eventOf, stepped}
+use Rattle.line.specs.Record.{Rec, Fresh, limit, eventOf, stepped}
+use Rattle.line.specs.Record.Fresh.{made, refused}
 use Rattle.record.specs.declared.Event.{Event as Shown}
 use Rattle.record.specs.declared.Event.the-variants.{Nothing, Message, Refusal}
 
@@ -14,6 +15,11 @@ one e = byEvent e 0 (λ id d n. 1) (λ v id n. 1)
 abbrev pub raised : Rec → List ℕ → ℕ
 raised r [] = 0
 raised r (b ∷ bs) = cond (ltb (r .fed) limit) (one (eventOf r b) + raised (stepped r b) bs) 0
+
+-- by a fresh reader: where there is none, no event is raised
+abbrev pub countOf : Fresh → List ℕ → ℕ
+countOf (made r) s = raised r s
+countOf (refused v) s = 0
 
 -- of a private function: an event in memory
 abbrev pub countShown : Shown → ℕ

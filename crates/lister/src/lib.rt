@@ -9,10 +9,11 @@ ghost use Prim.Native.Nat.{_≤_};
 ghost use lib.Dec.{ltb};
 ghost use lib.ListN.{length};
 ghost use Rattle.octets.specs.Placing.{placed};
+ghost use Rattle.line.specs.Record.{fresh};
 ghost use Rattle.totals.specs.Totals.{Counts};
 ghost use Rattle.lister.specs.Listing.{longest};
-ghost use Rattle.lister.specs.Counting.{countShown};
-ghost use Rattle.lister.specs.Posts.{begun, PartPost, CountPost, ScanPost, numberOf, lineIf};
+ghost use Rattle.lister.specs.Counting.{countShown, countOf};
+ghost use Rattle.lister.specs.Posts.{begun, PartPost, ScanPost, numberOf, lineIf};
 
 // What a part of a listing took and wrote.
 pub struct Part {
@@ -157,11 +158,15 @@ pub fn list_part(r: Reader, s: &[u8], buf: &mut [u8]) -> Part
     x.part
 }
 
-// How many events the bytes raise, up to one that can't be counted. A reader that is refused has none.
-pub fn count_events(r: Reader, s: &[u8]) -> u64
-    ensures { λ n. ⌜ CountPost r (now (s .entry)) n ⌝ }
+// How many events the bytes raise by a fresh reader of a mode, up to one that can't be counted. A mode that has no reader has none.
+pub fn count_events(mode: u8, s: &[u8]) -> u64
+    ensures { λ n. ⌜ n ≡ countOf (fresh mode) (now (s .entry)) ⌝ }
 {
+    let f = Reader::fresh(mode);
+    if f.refusal != 0 {
+        return 0;
+    }
     let mut none = [0u8; 1];
-    let x = scan(r, s, &mut none, false);
+    let x = scan(f.reader, s, &mut none, false);
     x.events
 }
