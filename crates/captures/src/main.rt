@@ -1,281 +1,197 @@
-// Reads captures as hexadecimal text, a line each (mode, then the bytes). Of each it prints the events of single steps (offset,
-// identifier, number, bytes closed, a message's data) and the record they leave. Then it feeds the capture as two slices, cut at
-// every place, and prints how many cuts there are, how many gave another text, and the text of the cut in the middle.
+// Reads captures as hexadecimal text, a line each (mode, then the bytes). Of each it prints the mode, then the events of single steps,
+// a line each (offset, identifier, number, bytes closed, a message's data), then the record they leave (fed, accepted, refused,
+// outside, pending; a line for each latest message, identifier and data). Then it feeds the capture as two slices, cut at every
+// place, and prints how many cuts there are, and the places of those whose events or record differ. All numbers are hexadecimal.
+//
+// Events and records are compared by a sum of all that is printed of them. What prints them also sums, so that a cut, which is not
+// to be printed, goes the same way: `loud` says whether to print.
 use latest::Latest;
 use record::Answer;
 use record::Event;
-use record::Head;
 use record::Reader;
-ghost use lib.ListN.{length};
 ghost use Prim.Native.Nat.{_≤_};
 
-// A reader, and where the text so far ends.
-struct Logged {
-    reader: Reader,
-    at: usize,
+fn show(n: u64) {
+    io::write_all(1, b" ");
+    io::print_hex(1, n, 2);
 }
 
-// The functions below put text into a log from a place on and return the place after it; past the log's end nothing is put.
-
-fn put(log: &mut [u8], at: usize, b: u8) -> usize {
-    if at < log.len() {
-        log[at] = b;
-        return at + 1;
+// The sum with one more number. It does not wrap: 257 times 2^55 and 2^32 more is below 2^64.
+fn note(loud: bool, sum: u64, n: u64) -> u64 {
+    if loud {
+        show(n);
     }
-    at
+    (sum % 36028797018963913) * 257 + n % 4294967296
 }
 
-fn put_all(log: &mut [u8], at: usize, s: &[u8]) -> usize {
-    let mut to = at;
+fn octet(loud: bool, sum: u64, n: u8) -> u64 {
+    note(loud, sum, n as u64)
+}
+
+fn count(loud: bool, sum: u64, n: u32) -> u64 {
+    note(loud, sum, n as u64)
+}
+
+fn end(loud: bool) {
+    if loud {
+        io::write_all(1, b"\n");
+    }
+}
+
+// The first n of these bytes.
+fn octets(loud: bool, sum0: u64, s: &[u8], n: usize) -> u64 {
+    let mut sum = sum0;
     let mut i: usize = 0;
-    while i < s.len() {
-        to = put(log, to, s[i]);
+    while i < n {
+        sum = octet(loud, sum, octets::byte_at(s, i));
         i += 1;
     }
-    to
+    end(loud);
+    sum
 }
 
-fn put_hex(log: &mut [u8], at: usize, b: u8) -> usize {
-    let to = put(log, at, hexlines::hex(b / 16));
-    put(log, to, hexlines::hex(b % 16))
-}
-
-fn put_octets(log: &mut [u8], at: usize, s: &[u8]) -> usize {
-    let mut to = at;
-    let mut i: usize = 0;
-    while i < s.len() {
-        to = put_hex(log, to, s[i]);
-        i += 1;
-    }
-    to
-}
-
-// A number after a blank.
-fn put_number(log: &mut [u8], at: usize, n: u64) -> usize {
-    let mut text = [0u8; 20];
-    let k = io::decimal(n, &mut text);
-    let to = put(log, at, b' ');
-    put_all(log, to, &text[..k])
-}
-
-fn put_count(log: &mut [u8], at: usize, n: u32) -> usize {
-    put_number(log, at, n as u64)
-}
-
-// Data after a blank, where there are any, and the line's end.
-fn put_data(log: &mut [u8], at: usize, d: &[u8], len: usize) -> usize {
-    if len == 0 {
-        return put(log, at, b'\n');
-    }
-    if d.len() < len {
-        return at;
-    }
-    let from = put(log, at, b' ');
-    let to = put_octets(log, from, &d[0..len]);
-    put(log, to, b'\n')
-}
-
-fn put_body(log: &mut [u8], at: usize, a: Answer) -> usize {
-    let d = a.bytes;
-    put_data(log, at, &d, a.len)
-}
-
-// The line of an event, raised by the byte at an offset.
-fn put_line(log: &mut [u8], at: usize, offset: usize, a: Answer, number: u8) -> usize {
-    let after_word = put_all(log, at, b"at");
-    let after_offset = put_number(log, after_word, offset as u64);
-    let blank = put(log, after_offset, b' ');
-    let after_id = put_hex(log, blank, a.id);
-    let after_number = put_number(log, after_id, number as u64);
-    let after_closed = put_count(log, after_number, a.closed);
-    put_body(log, after_closed, a)
-}
-
-fn put_event(log: &mut [u8], at: usize, offset: usize, a: Answer) -> usize {
-    let e = a.event;
+// The number of an event: 0 for a message, and one that no refusal has for nothing yet.
+fn number(e: Event) -> u8 {
     match e {
-        Event::Nothing => at,
-        Event::Message => put_line(log, at, offset, a, 0),
-        Event::Refusal(n) => put_line(log, at, offset, a, n),
+        Event::Nothing => 255,
+        Event::Message => 0,
+        Event::Refusal(n) => n,
     }
 }
 
-fn put_counts(log: &mut [u8], at: usize, h: Head) -> usize {
-    let after_word = put_all(log, at, b"total");
-    let after_fed = put_count(log, after_word, h.fed);
-    let after_accepted = put_count(log, after_fed, h.accepted);
-    let after_refused = put_count(log, after_accepted, h.refused);
-    let after_outside = put_count(log, after_refused, h.outside);
-    let after_pending = put_count(log, after_outside, h.pending);
-    put(log, after_pending, b'\n')
+// An event, raised by the byte at an offset.
+fn event(loud: bool, sum: u64, offset: usize, a: Answer) -> u64 {
+    let e = a.event;
+    let d = a.bytes;
+    let n = number(e);
+    if n == 255 {
+        return sum;
+    }
+    let at = note(loud, sum, offset as u64);
+    let of = octet(loud, at, a.id);
+    let by = octet(loud, of, n);
+    let closed = count(loud, by, a.closed);
+    octets(loud, closed, &d, a.len)
 }
 
 // A standing reading, if there is one.
-fn put_reading(log: &mut [u8], at: usize, has: bool, id: u8, d: &[u8]) -> usize {
-    if !has {
-        return at;
+fn reading(loud: bool, sum: u64, has: bool, id: u8, d: &[u8]) -> u64 {
+    if has {
+        return octets(loud, octet(loud, sum, id), d, d.len());
     }
-    let after_word = put_all(log, at, b"latest ");
-    let after_id = put_hex(log, after_word, id);
-    put_data(log, after_id, d, d.len())
+    sum
 }
 
 // Two functions, since the lengths of all five arrays at once are more than the search for a proof looks at.
-fn put_short(log: &mut [u8], at: usize, l: Latest) -> usize {
+fn short(loud: bool, sum: u64, l: Latest) -> u64 {
     let d43 = l.d43;
     let d46 = l.d46;
     let deb = l.deb;
-    let after_43 = put_reading(log, at, l.has43, 0x43, &d43);
-    let after_46 = put_reading(log, after_43, l.has46, 0x46, &d46);
-    put_reading(log, after_46, l.haseb, 0xEB, &deb)
+    let after_43 = reading(loud, sum, l.has43, 0x43, &d43);
+    let after_46 = reading(loud, after_43, l.has46, 0x46, &d46);
+    reading(loud, after_46, l.haseb, 0xEB, &deb)
 }
 
-fn put_long(log: &mut [u8], at: usize, l: Latest) -> usize {
+fn long(loud: bool, sum: u64, l: Latest) -> u64 {
     let d4a = l.d4a;
     let d4b = l.d4b;
-    let after_4a = put_reading(log, at, l.has4a, 0x4A, &d4a);
-    put_reading(log, after_4a, l.has4b, 0x4B, &d4b)
+    let after_4a = reading(loud, sum, l.has4a, 0x4A, &d4a);
+    reading(loud, after_4a, l.has4b, 0x4B, &d4b)
 }
 
-fn put_record(log: &mut [u8], at: usize, r: Reader) -> usize {
-    let h = r.head;
-    let l = r.latest;
-    let to = put_counts(log, at, h);
-    let after_short = put_short(log, to, l);
-    put_long(log, after_short, l)
+fn record(loud: bool, sum: u64, r: Reader) -> u64 {
+    let fed = count(loud, sum, r.head.fed);
+    let accepted = count(loud, fed, r.head.accepted);
+    let refused = count(loud, accepted, r.head.refused);
+    let outside = count(loud, refused, r.head.outside);
+    let pending = count(loud, outside, r.head.pending);
+    end(loud);
+    long(loud, short(loud, pending, r.latest), r.latest)
 }
 
-// The text of a capture by single steps.
-fn by_steps(mode: u8, s: &[u8], log: &mut [u8]) -> usize {
-    let f = Reader::fresh(mode);
-    let mut r = f.reader;
-    let mut at: usize = 0;
+// A capture by single steps.
+fn by_steps(r0: Reader, s: &[u8]) -> u64 {
+    let mut r = r0;
+    let mut sum: u64 = 0;
     let mut i: usize = 0;
     while i < s.len() {
         let t = calls::step(r, s[i]);
-        let a = t.answer;
-        at = put_event(log, at, i, a);
+        sum = event(true, sum, i, t.answer);
         r = t.reader;
         i += 1;
     }
-    put_record(log, at, r)
+    record(true, sum, r)
 }
 
-// The slice from one place to another, fed again from where each call stopped until a call takes nothing.
-fn by_slice(r0: Reader, s: &[u8], from: usize, end: usize, log: &mut [u8], at0: usize) -> Logged
-    requires { ⌜ (from ≤ end) × (end ≤ length (now s)) ⌝ }
+// Where the slice from a place on ends: at the cut, or past it at the end.
+fn stop(from: usize, cut: usize, len: usize) -> usize
+    requires { ⌜ from ≤ len ⌝ }
+    ensures { λ r. ⌜ (from ≤ r) × (r ≤ len) ⌝ }
 {
+    if from < cut {
+        if cut < len {
+            return cut;
+        }
+    }
+    len
+}
+
+// A capture as two slices, each fed again from where a call stopped.
+fn by_cut(r0: Reader, s: &[u8], cut: usize) -> u64 {
     let mut r = r0;
-    let mut at = at0;
-    let mut done = from;
-    while done <= end {
+    let mut sum: u64 = 0;
+    let mut done: usize = 0;
+    while done < s.len() {
+        let end = stop(done, cut, s.len());
         let f = reader::feed(r, &s[done..end]);
         let n = f.taken;
         r = f.reader;
+        // A call that takes nothing, or claims more than it was given, is wrong.
         if n == 0 {
-            return Logged { reader: r, at: at };
+            return 0;
         }
-        // A call that claims more than it was given is not believed.
         if end - done < n {
-            return Logged { reader: r, at: at };
+            return 0;
         }
         done += n;
-        let a = f.answer;
-        at = put_event(log, at, done - 1, a);
+        sum = event(false, sum, done - 1, f.answer);
     }
-    Logged { reader: r, at: at }
+    record(false, sum, r)
 }
 
-// The text of a capture as two slices, cut at k.
-fn by_cut(mode: u8, s: &[u8], k: usize, log: &mut [u8]) -> usize
-    requires { ⌜ k ≤ length (now s) ⌝ }
-{
-    let f = Reader::fresh(mode);
-    let first = by_slice(f.reader, s, 0, k, log, 0);
-    let second = by_slice(first.reader, s, k, s.len(), log, first.at);
-    put_record(log, second.at, second.reader)
-}
-
-fn same(a: &[u8], b: &[u8]) -> bool {
-    if a.len() != b.len() {
-        return false;
-    }
-    let mut i: usize = 0;
-    while i < a.len() {
-        if a[i] != octets::byte_at(b, i) {
-            return false;
-        }
-        i += 1;
-    }
-    true
-}
-
-// 1 if the cut at k gives another text, else 0.
-fn differs(mode: u8, s: &[u8], k: usize, want: &[u8], log: &mut [u8]) -> usize
-    requires { ⌜ k ≤ length (now s) ⌝ }
-    ensures { λ r. ⌜ r ≤ 1 ⌝ }
-{
-    let n = by_cut(mode, s, k, log);
-    if log.len() < n {
-        return 1;
-    }
-    if same(&log[0..n], want) {
-        return 0;
-    }
-    1
-}
-
-fn differing(mode: u8, s: &[u8], want: &[u8], log: &mut [u8]) -> usize {
-    let mut n: usize = 0;
-    let mut k: usize = 0;
-    while k <= s.len() {
-        n += differs(mode, s, k, want, log);
-        k += 1;
-    }
-    n
-}
-
-fn show(log: &[u8], n: usize) {
-    if n <= log.len() {
-        io::write_all(1, &log[0..n]);
+fn compare(r: Reader, s: &[u8], cut: usize, sum: u64) {
+    if by_cut(r, s, cut) != sum {
+        show(cut as u64);
     }
 }
 
-fn cuts(mode: u8, s: &[u8], want: &[u8], log: &mut [u8]) {
-    let n = differing(mode, s, want, log);
-    io::write_all(1, b"cuts ");
-    io::print_decimal(1, s.len() as u64 + 1);
-    io::write_all(1, b" differing ");
-    io::print_decimal(1, n as u64);
-    io::write_all(1, b"\n");
-    let m = by_cut(mode, s, s.len() / 2, log);
-    show(log, m);
-}
-
-fn capture(mode: u8, s: &[u8], text: &mut [u8], log: &mut [u8]) {
-    io::write_all(1, b"mode ");
-    io::print_decimal(1, mode as u64);
-    io::write_all(1, b" steps\n");
-    let n = by_steps(mode, s, text);
-    show(text, n);
-    if n <= text.len() {
-        cuts(mode, s, &text[0..n], log);
+fn compare_all(r: Reader, s: &[u8], sum: u64) {
+    let mut cut: usize = 0;
+    while cut <= s.len() {
+        compare(r, s, cut, sum);
+        cut += 1;
     }
 }
 
 // One capture: its first byte is the mode.
-fn run(message: &[u8]) {
-    let mut text = [0u8; 8192];
-    let mut log = [0u8; 8192];
-    if 0 < message.len() {
-        capture(message[0], &message[1..], &mut text, &mut log);
+fn capture(s: &[u8]) {
+    if s.len() == 0 {
+        return;
     }
+    let f = Reader::fresh(s[0]);
+    let bytes = &s[1..];
+    octet(true, 0, s[0]);
+    end(true);
+    let sum = by_steps(f.reader, bytes);
+    show(s.len() as u64);
+    compare_all(f.reader, bytes, sum);
+    end(true);
 }
 
 fn capture_line(s: &[u8]) {
     let mut bytes = [0u8; 1024];
     let n = hexlines::parse(s, &mut bytes);
-    run(&bytes[0..n]);
+    capture(&bytes[0..n]);
 }
 
 fn main() {

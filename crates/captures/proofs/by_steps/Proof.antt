@@ -1,19 +1,15 @@
 -- `captures::by_steps`: each turn takes a byte.
 use Prim.Native.Nat.{_-_, _≤_}
-use mathlib.Core.Path.{_≡_}
 use lib.ListN.{length}
 use borrow.Author.Needs.{needs}
 use Rattle.captures.proofs.by_steps.Statement.{statement}
 use Rattle.captures.proofs.by_steps.Tie as tie
 
 abbrev Inv-loop : tie.InvT-loop
-Inv-loop mode s log₀ r₀ at₀ i₀ log r at i = (i ≤ length s) × (length log ≡ length log₀)
+Inv-loop s r₀ sum₀ i₀ r sum i = i ≤ length s
 
 abbrev μ-loop : tie.MeasureT-loop
-μ-loop mode s log₀ r₀ at₀ i₀ log r at i = length s - i
-
-fresh-requires : tie.Need-fresh-requires Inv-loop μ-loop
-fresh-requires c κs = search needs
+μ-loop s r₀ sum₀ i₀ r sum i = length s - i
 
 loop-holds : tie.Need-loop-holds Inv-loop μ-loop
 loop-holds c = search needs
@@ -24,8 +20,8 @@ shared-slice-read-step c = search needs
 step-requires : tie.Need-step-requires Inv-loop μ-loop
 step-requires c κs = search needs
 
-put-event-requires : tie.Need-put-event-requires Inv-loop μ-loop
-put-event-requires c κs = search needs
+event-requires : tie.Need-event-requires Inv-loop μ-loop
+event-requires c κs = search needs
 
 add-i : tie.Need-add-i Inv-loop μ-loop
 add-i c = search needs
@@ -36,11 +32,8 @@ loop-less c = search needs
 loop-again : tie.Need-loop-again Inv-loop μ-loop
 loop-again c = search needs
 
-put-record-requires : tie.Need-put-record-requires Inv-loop μ-loop
-put-record-requires c κs = search needs
-
-same-length : tie.Need-same-length Inv-loop μ-loop
-same-length c = search needs
+record-requires : tie.Need-record-requires Inv-loop μ-loop
+record-requires c κs = search needs
 
 returns : tie.Need-returns Inv-loop μ-loop
 returns c = search needs
@@ -51,14 +44,12 @@ by-steps-spec =
     (tie.spec
     Inv-loop
     μ-loop
-    fresh-requires
     loop-holds
     shared-slice-read-step
     step-requires
-    put-event-requires
+    event-requires
     add-i
     loop-less
     loop-again
-    put-record-requires
-    same-length
+    record-requires
     returns)

@@ -6,10 +6,13 @@ use Rattle.cases.proofs.main.Statement.{statement}
 use Rattle.cases.proofs.main.Tie as tie
 
 abbrev Inv-loop : tie.InvT-loop
-Inv-loop n s at₀ at = at ≤ length s
+Inv-loop n s at₀ at = (at ≤ length s)
 
 abbrev μ-loop : tie.MeasureT-loop
 μ-loop n s at₀ at = length s - at
+
+large-buffer-requires : tie.Need-large-buffer-requires Inv-loop μ-loop
+large-buffer-requires c κs = search needs
 
 slice-aggregate-read-full : tie.Need-slice-aggregate-read-full Inv-loop μ-loop
 slice-aggregate-read-full c = search needs
@@ -62,6 +65,7 @@ main-spec =
     (tie.spec
     Inv-loop
     μ-loop
+    large-buffer-requires
     slice-aggregate-read-full
     read-full-requires
     array-share-prefix-buf

@@ -6,10 +6,10 @@ use Rattle.cases.proofs.run.Statement.{statement}
 use Rattle.cases.proofs.run.Tie as tie
 
 abbrev Inv-loop : tie.InvT-loop
-Inv-loop s r₀ done₀ r done = done ≤ length s
+Inv-loop s most r₀ done₀ r done = done ≤ length s
 
 abbrev μ-loop : tie.MeasureT-loop
-μ-loop s r₀ done₀ r done = length s - done
+μ-loop s most r₀ done₀ r done = length s - done
 
 loop-holds : tie.Need-loop-holds Inv-loop μ-loop
 loop-holds c = search needs
@@ -32,11 +32,14 @@ show-requires c κs = search needs
 returns : tie.Need-returns Inv-loop μ-loop
 returns c = search needs
 
-sub-if2 : tie.Need-sub-if2 Inv-loop μ-loop
-sub-if2 c = search needs
-
 returns-2 : tie.Need-returns-2 Inv-loop μ-loop
 returns-2 c = search needs
+
+sub-if3 : tie.Need-sub-if3 Inv-loop μ-loop
+sub-if3 c = search needs
+
+returns-3 : tie.Need-returns-3 Inv-loop μ-loop
+returns-3 c = search needs
 
 add-done : tie.Need-add-done Inv-loop μ-loop
 add-done c = search needs
@@ -47,8 +50,8 @@ loop-less c = search needs
 loop-again : tie.Need-loop-again Inv-loop μ-loop
 loop-again c = search needs
 
-returns-3 : tie.Need-returns-3 Inv-loop μ-loop
-returns-3 c = search needs
+returns-4 : tie.Need-returns-4 Inv-loop μ-loop
+returns-4 c = search needs
 
 pub run-spec : {M : Type 1} → statement M
 run-spec =
@@ -63,9 +66,10 @@ run-spec =
     feed-requires
     show-requires
     returns
-    sub-if2
     returns-2
+    sub-if3
+    returns-3
     add-done
     loop-less
     loop-again
-    returns-3)
+    returns-4)

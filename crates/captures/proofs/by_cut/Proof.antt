@@ -1,19 +1,24 @@
--- `captures::by_slice`: each turn takes a byte or more.
+-- `captures::by_cut`: each turn takes a byte or more.
 use Prim.Native.Nat.{_-_, _≤_}
-use mathlib.Core.Path.{_≡_}
 use lib.ListN.{length}
 use borrow.Author.Needs.{needs}
-use Rattle.captures.proofs.by_slice.Statement.{statement}
-use Rattle.captures.proofs.by_slice.Tie as tie
+use Rattle.captures.proofs.by_cut.Statement.{statement}
+use Rattle.captures.proofs.by_cut.Tie as tie
 
 abbrev Inv-loop : tie.InvT-loop
-Inv-loop s from end log₀ at0 r₀ at₀ done₀ log r at done = (done ≤ end) × (length log ≡ length log₀)
+Inv-loop s cut r₀ sum₀ done₀ r sum done = done ≤ length s
 
 abbrev μ-loop : tie.MeasureT-loop
-μ-loop s from end log₀ at0 r₀ at₀ done₀ log r at done = end - done
+μ-loop s cut r₀ sum₀ done₀ r sum done = length s - done
 
 loop-holds : tie.Need-loop-holds Inv-loop μ-loop
 loop-holds c = search needs
+
+stop-requires : tie.Need-stop-requires Inv-loop μ-loop
+stop-requires c κs = search needs
+
+sub-feed : tie.Need-sub-feed Inv-loop μ-loop
+sub-feed c = search needs
 
 part-feed-start : tie.Need-part-feed-start Inv-loop μ-loop
 part-feed-start c = search needs
@@ -24,14 +29,11 @@ part-feed-end c = search needs
 feed-requires : tie.Need-feed-requires Inv-loop μ-loop
 feed-requires c κs = search needs
 
-same-length : tie.Need-same-length Inv-loop μ-loop
-same-length c = search needs
-
 returns : tie.Need-returns Inv-loop μ-loop
 returns c = search needs
 
-same-length-2 : tie.Need-same-length-2 Inv-loop μ-loop
-same-length-2 c = search needs
+sub-if2 : tie.Need-sub-if2 Inv-loop μ-loop
+sub-if2 c = search needs
 
 returns-2 : tie.Need-returns-2 Inv-loop μ-loop
 returns-2 c = search needs
@@ -39,11 +41,11 @@ returns-2 c = search needs
 add-done : tie.Need-add-done Inv-loop μ-loop
 add-done c = search needs
 
-sub-put-event : tie.Need-sub-put-event Inv-loop μ-loop
-sub-put-event c = search needs
+sub-event : tie.Need-sub-event Inv-loop μ-loop
+sub-event c = search needs
 
-put-event-requires : tie.Need-put-event-requires Inv-loop μ-loop
-put-event-requires c κs = search needs
+event-requires : tie.Need-event-requires Inv-loop μ-loop
+event-requires c κs = search needs
 
 loop-less : tie.Need-loop-less Inv-loop μ-loop
 loop-less c = search needs
@@ -51,30 +53,31 @@ loop-less c = search needs
 loop-again : tie.Need-loop-again Inv-loop μ-loop
 loop-again c = search needs
 
-same-length-3 : tie.Need-same-length-3 Inv-loop μ-loop
-same-length-3 c = search needs
+record-requires : tie.Need-record-requires Inv-loop μ-loop
+record-requires c κs = search needs
 
 returns-3 : tie.Need-returns-3 Inv-loop μ-loop
 returns-3 c = search needs
 
-pub by-slice-spec : {M : Type 1} → statement M
-by-slice-spec =
+pub by-cut-spec : {M : Type 1} → statement M
+by-cut-spec =
     tie.close
     (tie.spec
     Inv-loop
     μ-loop
     loop-holds
+    stop-requires
+    sub-feed
     part-feed-start
     part-feed-end
     feed-requires
-    same-length
     returns
-    same-length-2
+    sub-if2
     returns-2
     add-done
-    sub-put-event
-    put-event-requires
+    sub-event
+    event-requires
     loop-less
     loop-again
-    same-length-3
+    record-requires
     returns-3)
