@@ -20,7 +20,7 @@ fn shift(reg: u16) -> u16
 }
 
 // The register after one more byte.
-pub fn after_byte(reg: u16, b: u8) -> u16
+fn after_byte(reg: u16, b: u8) -> u16
     ensures { λ r. ⌜ r ≡ afterByte reg b ⌝ }
 {
     let mut r = reg ^ ((b as u16) << 8);

@@ -1,7 +1,7 @@
 -- What the definitions say of text at hand, computed.
 use mathlib.Core.Path.{_≡_, refl}
 use mathlib.Core.List.{[], _∷_}
-use Rattle.hexlines.specs.Lines.{lineLength, digitOf, bytesOf, hexOf}
+use Rattle.hexlines.specs.Lines.{lineLength, digitOf, bytesOf}
 
 -- "1F", and "A" alone
 pub three-digits : bytesOf (49 ∷ 70 ∷ 65 ∷ []) ≡ 0x1F ∷ 0xA0 ∷ []
@@ -11,8 +11,3 @@ three-digits = refl
 pub two-before : lineLength (49 ∷ 70 ∷ 10 ∷ 65 ∷ []) ≡ 2
 unfolding lineLength
 two-before = refl
-
--- "9", "A" and "?"
-pub characters : (hexOf 9 ≡ 57) × (hexOf 10 ≡ 65) × (hexOf 16 ≡ 63)
-unfolding hexOf
-characters = (refl, refl, refl)

@@ -23,7 +23,3 @@ bytesOf (h ∷ l ∷ s) = (digitOf h * 16 + digitOf l) ∷ bytesOf s
 -- as many of them as there is room for
 abbrev pub parsed : ℕ → List ℕ → List ℕ
 parsed room s = take room (bytesOf s)
-
--- a digit's character; 63, "?", for no digit
-unfoldable pub hexOf : ℕ → ℕ
-hexOf n = cond (ltb n 10) (48 + n) (cond (ltb n 16) (55 + n) 63)

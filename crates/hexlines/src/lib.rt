@@ -1,9 +1,9 @@
-// Lines of hexadecimal text, in upper case: what the test programs read and print.
+// Lines of hexadecimal text, in upper case: what the test programs read.
 ghost use mathlib.Core.Path.{_≡_};
 ghost use Prim.Native.Nat.{_+_, _*_, _-_, _≤_, _<_};
 ghost use lib.ListN.{length, drop};
 ghost use Rattle.octets.specs.Placing.{placed};
-ghost use Rattle.hexlines.specs.Lines.{lineLength, digitOf, hexOf, parsed};
+ghost use Rattle.hexlines.specs.Lines.{lineLength, digitOf, parsed};
 
 // The place of the next line end from a place on, or the text's end; past the end, the place itself. The second clause follows from
 // the first: it is what a caller that cuts the line out needs.
@@ -69,17 +69,4 @@ pub fn parse(s: &[u8], out: &mut [u8]) -> usize
         i += 2;
     }
     n
-}
-
-// A digit's character; ? for no digit.
-pub fn hex(n: u8) -> u8
-    ensures { λ r. ⌜ r ≡ hexOf n ⌝ }
-{
-    if n < 10 {
-        return b'0' + n;
-    }
-    if n < 16 {
-        return b'A' - 10 + n;
-    }
-    b'?'
 }

@@ -1,10 +1,12 @@
 -- Laws of numbers in bytes, low byte first, over any number of bytes: what callers use in place of their text.
-use mathlib.Core.Path.{_≡_, refl, ap}
+use mathlib.Core.Bool.{Bool, true, false}
+use mathlib.Core.Path.{_≡_, refl, sym, ap, _∙_}
 use mathlib.Core.List.{List, [], _∷_}
 use Prim.Native.Nat.{ℕ, zero, suc, _+_, _-_, _*_, _/_, _%_, _^_, _≤_, _<_}
 use native.Mathlib.Nat.{pow-suc, add-suc, zero-lt-suc, pow-le-pow-right}
 use native.Mathlib.Omega.{arith}
-use borrow.Author.Tests.{le-leb, lt-leb}
+use borrow.Author.Tests.{le-leb, lt-leb, leb-true, leb-false}
+use lib.Dec.{leb}
 use lib.ListN.{length, take, drop, getD}
 use lib.Seq.{drop-cons}
 use Rattle.numbers.specs.Number.{numberOf, bytesOf, numberAt}
@@ -48,6 +50,25 @@ number-in s at n h = rw (le-leb (at + n) (length s) h)
 pub number-out : (s : List ℕ) (at n : ℕ) → length s < at + n → numberAt s at n ≡ 0
 unfolding numberAt
 number-out s at n h = rw (lt-leb (at + n) (length s) h)
+
+-- one byte is the number that it stands for
+past : (s : List ℕ) (at : ℕ) → length s ≤ at → getD s at 0 ≡ 0
+past [] at h = refl
+past (b ∷ s) zero h = absurd (omega arith)
+past (b ∷ s) (suc at) h = past s at (omega arith)
+
+pub number-one : (s : List ℕ) (at : ℕ) → numberAt s at 1 ≡ getD s at 0
+unfolding numberOf
+number-one s at = by (leb (at + 1) (length s)) refl
+  where
+    by : (t : Bool) → leb (at + 1) (length s) ≡ t → numberAt s at 1 ≡ getD s at 0
+    by true e =
+        let h = leb-true (at + 1) (length s) e in
+        let z : getD s at 0 + 256 * 0 ≡ getD s at 0 = omega arith in
+        number-in s at 1 h ∙ ap (λ l. numberOf (take 1 l)) (drop-cons s at 0 (omega arith)) ∙ z
+    by false e =
+        let h = leb-false (at + 1) (length s) e in
+        number-out s at 1 h ∙ sym (past s at (omega arith))
 
 -- one byte more in front of those from k on
 pub number-back : (s : List ℕ) (at n k : ℕ) → 0 < k → k ≤ n → at + n ≤ length s

@@ -14,7 +14,7 @@ fn wide(b: u8) -> u64
 }
 
 // The number in the n bytes from `at` on; 0 where there are fewer, or more than a u64 holds.
-pub fn number_at(s: &[u8], at: usize, n: usize) -> u64
+fn number_at(s: &[u8], at: usize, n: usize) -> u64
     ensures { λ r. ⌜ (r ≡ cond (leb n 8) (numberAt (now (s .entry)) at n) 0) × (r < 256 ^ n) ⌝ }
 {
     if 8 < n {

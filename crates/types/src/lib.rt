@@ -7,7 +7,7 @@ ghost use Rattle.types.specs.Types.{int8uAt, int8sAt, int16sAt};
 pub fn int8u_at(body: &[u8], at: usize) -> u8
     ensures { λ r. ⌜ r ≡ int8uAt (now (body .entry)) at ⌝ }
 {
-    numbers::number_at(body, at, 1) as u8
+    octets::byte_at(body, at)
 }
 
 pub fn int8s_at(body: &[u8], at: usize) -> i8

@@ -7,8 +7,9 @@ fn show(register: u16) {
 }
 
 fn entry(b: u8) {
+    let one = [b];
     if b != 0x5A {
-        show(checksum::after_byte(0, b));
+        show(checksum::after_slice(0, &one));
     }
 }
 

@@ -1,12 +1,14 @@
 // Reads messages as hexadecimal text, a line each (identifier, then data), and prints of each line its identifier, the number of
-// data bytes and the answer of questions 10 to 12.
+// data bytes and the answer of questions 10 to 12, as every encode call asks them.
 
 fn show(id: u8, body: &[u8]) {
-    let name = [hexlines::hex(id / 16), hexlines::hex(id % 16), b' '];
-    io::write_all(1, &name);
+    let mut buf = [0u8; 1024];
+    let w = encoding::deliver(id, body, &mut buf);
+    io::print_hex(1, id as u64, 2);
+    io::write_all(1, b" ");
     io::print_decimal(1, body.len() as u64);
     io::write_all(1, b" ");
-    io::print_decimal(1, kinds::content(id, body) as u64);
+    io::print_decimal(1, w.refusal as u64);
     io::write_all(1, b"\n");
 }
 

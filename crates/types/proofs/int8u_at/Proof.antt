@@ -1,16 +1,16 @@
--- `int8u_at` meets its contract: by what its callee ensures.
+-- `int8u_at` meets its contract: one byte is the number that it stands for.
+use mathlib.Core.Path.{sym, _∙_}
 use borrow.Author.Needs.{needs}
+use denote.Ref.{now}
+use Rattle.numbers.proofs.NumberLaws.{number-one}
 use Rattle.types.proofs.int8u_at.Statement.{statement}
 use Rattle.types.proofs.int8u_at.Tie as tie
 
-number-at-requires : tie.Need-number-at-requires
-number-at-requires c κs = search needs
-
-cast-result : tie.Need-cast-result
-cast-result c = search needs
+byte-at-requires : tie.Need-byte-at-requires
+byte-at-requires c κs = search needs
 
 returns : tie.Need-returns
-returns c = c .number-at .ensures .0
+returns c = c .byte-at .ensures ∙ sym (number-one _ _)
 
 pub int8u-at-spec : {M : Type 1} → statement M
-int8u-at-spec = tie.close (tie.spec number-at-requires cast-result returns)
+int8u-at-spec = tie.close (tie.spec byte-at-requires returns)

@@ -1,0 +1,16 @@
+-- `u32_at` meets its contract: by what its callee ensures.
+use borrow.Author.Needs.{needs}
+use Rattle.numbers.proofs.u32_at.Statement.{statement}
+use Rattle.numbers.proofs.u32_at.Tie as tie
+
+number-at-requires : tie.Need-number-at-requires
+number-at-requires c κs = search needs
+
+cast-result : tie.Need-cast-result
+cast-result c = search needs
+
+returns : tie.Need-returns
+returns c = c .number-at .ensures .0
+
+pub u32-at-spec : {M : Type 1} → statement M
+u32-at-spec = tie.close (tie.spec number-at-requires cast-result returns)
