@@ -8,7 +8,7 @@ use native.Mathlib.Omega.{arith}
 use lib.Bits.{bitXor, xor-lt}
 use lib.Dec.{eqb}
 use lib.ListN.{length, getD}
-use Rattle.octets.specs.Stuffing.{DLE, stuffed}
+use Rattle.stuffing.specs.Stuffing.{DLE, stuffed}
 use Rattle.checksum.specs.Checksum.{divisor, shifted, shiftedBy, afterByte, afterBytes, checksum, c1Of, c2Of}
 
 pub after-append : (r : ℕ) (s t : List ℕ) → afterBytes r (s ++ t) ≡ afterBytes (afterBytes r s) t

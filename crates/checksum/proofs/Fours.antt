@@ -6,9 +6,9 @@ use native.Mathlib.Omega.{arith}
 use lib.Bits.{bitXor}
 use lib.ListN.{length, drop, getD}
 use lib.Seq.{drop-cons}
-use Rattle.octets.specs.Stuffing.{DLE, stuffed}
-use Rattle.octets.proofs.StuffingLaws.{stuffed-other}
-use Rattle.octets.proofs.PlainLaws.{Plain}
+use Rattle.stuffing.specs.Stuffing.{DLE, stuffed}
+use Rattle.stuffing.proofs.StuffingLaws.{stuffed-other}
+use Rattle.stuffing.proofs.PlainLaws.{Plain}
 use Rattle.checksum.specs.Checksum.{shiftedBy, afterByte, afterBytes}
 use Rattle.checksum.proofs.ChecksumLaws.{after-byte-lt}
 use Rattle.checksum.proofs.Linear.{after-pair}

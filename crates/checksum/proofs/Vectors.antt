@@ -1,7 +1,7 @@
 -- Checksums of known messages, computed: of 26h and 01h without data, and of 21h with the one data byte 10h, which counts twice.
 use mathlib.Core.Path.{_≡_, refl}
 use mathlib.Core.List.{[], _∷_}
-use Rattle.octets.specs.Stuffing.{stuffed}
+use Rattle.stuffing.specs.Stuffing.{stuffed}
 use Rattle.checksum.specs.Checksum.{shifted, shiftedBy, afterByte, afterBytes, checksum, c1Of, c2Of}
 
 pub of-26 : checksum 0x26 [] ≡ 0x44A4

@@ -3,7 +3,7 @@
 use mathlib.Core.List.{List, [], _∷_}
 use Prim.Native.Nat.{ℕ, zero, suc, _*_, _/_, _%_}
 use lib.Bits.{bitXor}
-use Rattle.octets.specs.Stuffing.{stuffed}
+use Rattle.stuffing.specs.Stuffing.{stuffed}
 
 -- the divisor but for its highest term: x^12 + x^5 + 1
 abbrev pub divisor : ℕ

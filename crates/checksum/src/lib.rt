@@ -5,7 +5,7 @@ ghost use Prim.Native.Nat.{ℕ, _+_, _*_, _≤_, _<_};
 ghost use lib.Bits.{bitXor};
 ghost use mathlib.Core.List.{List, _∷_};
 ghost use lib.ListN.{length, drop};
-ghost use Rattle.octets.specs.Stuffing.{stuffed};
+ghost use Rattle.stuffing.specs.Stuffing.{stuffed};
 ghost use Rattle.checksum.specs.Checksum.{shifted, shiftedBy, afterByte, afterBytes, checksum};
 
 // The register one place up: where a 1 leaves at the top, the divisor is taken away.
@@ -89,7 +89,7 @@ fn onward(reg: u16, s: &[u8], at: usize) -> Sum
     ensures { λ r. ⌜ (at < r .at) × (r .at ≤ length (now (s .entry)))
         × (afterBytes (r .reg) (stuffed (drop (r .at) (now (s .entry)))) ≡ afterBytes reg (stuffed (drop at (now (s .entry))))) ⌝ }
 {
-    if octets::four_plain(s, at) {
+    if stuffing::four_plain(s, at) {
         let r = after_four(reg, pair(s[at], s[at + 1]), pair(s[at + 2], s[at + 3]));
         return Sum { reg: r, at: at + 4 };
     }

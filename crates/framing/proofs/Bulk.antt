@@ -11,9 +11,9 @@ use borrow.Author.Tests.{lt-ltb, ltb-true, ltb-false}
 use lib.Dec.{ltb}
 use lib.ListN.{length, take, drop, getD, set, length-append, length-drop, length-set}
 use lib.Seq.{take-suc, take-suc-set, take-take, take-add, drop-drop, getD-drop, getD-take, drop-cons}
-use Rattle.octets.specs.Stuffing.{DLE, stuffed}
-use Rattle.octets.proofs.StuffingLaws.{stuffed-nil, stuffed-other, stuffed-append}
-use Rattle.octets.proofs.PlainLaws.{Plain}
+use Rattle.stuffing.specs.Stuffing.{DLE, stuffed}
+use Rattle.stuffing.proofs.StuffingLaws.{stuffed-nil, stuffed-other, stuffed-append}
+use Rattle.stuffing.proofs.PlainLaws.{Plain}
 use Rattle.line.specs.Frame.{Mode, Class, modeOf, classOf}
 use Rattle.line.specs.Frame.Class.{dle, etx, sum, other}
 use Rattle.line.specs.Table.{pending, go, skip, join, refuse, next}

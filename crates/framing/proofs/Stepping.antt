@@ -7,7 +7,7 @@ use native.Mathlib.Nat.{add-zero}
 use native.Mathlib.Omega.{arith}
 use lib.Dec.{eqb}
 use lib.ListN.{length, take}
-use Rattle.octets.proofs.StuffingLaws.{stuffed-nil}
+use Rattle.stuffing.proofs.StuffingLaws.{stuffed-nil}
 use Rattle.line.specs.Frame.{Mode, Class, modeOf, classOf}
 use Rattle.line.specs.Table.{State, Event as Said, Step, pending, go, verdict, ends, row, next, accepts, refuses}
 use Rattle.line.specs.Table.State.{W, F}

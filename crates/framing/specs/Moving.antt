@@ -6,7 +6,7 @@ use mathlib.Core.Path.{_≡_}
 use Prim.Native.Nat.{ℕ, _+_, _-_, _≤_, _<_}
 use lib.Dec.{eqb, ltb}
 use lib.ListN.{length, take, drop, getD}
-use Rattle.octets.specs.Stuffing.{DLE}
+use Rattle.stuffing.specs.Stuffing.{DLE}
 use Rattle.line.specs.Frame.{modeOf, judge, Acceptable}
 use Rattle.line.specs.Table.{Event as Said, pending, verdict}
 use Rattle.line.specs.Table.State.{W, F}

@@ -84,7 +84,7 @@ fn fill_fours(d: &mut [u8; 1024], len: usize, s: &[u8], from: usize) -> usize
     ensures { λ r. ⌜ (r ≤ length (now (s .entry))) × Copied (now (d .entry)) (now (d .exit)) len (now (s .entry)) from r ⌝ }
 {
     let mut at = from;
-    while octets::four_plain(s, at) {
+    while stuffing::four_plain(s, at) {
         let to = len + (at - from);
         d[to] = s[at];
         d[to + 1] = s[at + 1];

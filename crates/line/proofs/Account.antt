@@ -6,8 +6,8 @@ use Prim.Native.Nat.{ℕ, _+_}
 use native.Mathlib.Omega.{arith}
 use lib.Dec.{eqb, ltb}
 use lib.ListN.{length}
-use Rattle.octets.specs.Stuffing.{stuffed}
-use Rattle.octets.proofs.StuffingLaws.{stuffed-nil}
+use Rattle.stuffing.specs.Stuffing.{stuffed}
+use Rattle.stuffing.proofs.StuffingLaws.{stuffed-nil}
 use Rattle.line.specs.Frame.{Mode, Class, classOf, judge}
 use Rattle.line.specs.Frame.Mode.{plain, summed}
 use Rattle.line.specs.Frame.Class.{dle, etx, sum, other}

@@ -4,7 +4,7 @@ use mathlib.Core.Path.{_≡_, refl, ap}
 use Prim.Native.Nat.{ℕ}
 use Rattle.numbers.specs.Number.{numberOf, numberAt}
 use Rattle.signed.specs.Signed.{signed}
-use Rattle.octets.specs.Stuffing.{stuffed}
+use Rattle.stuffing.specs.Stuffing.{stuffed}
 use Rattle.checksum.specs.Checksum.{shifted, shiftedBy, afterByte, afterBytes, checksum}
 use Rattle.limits.specs.Ranges.{all, count}
 use Rattle.kinds.specs.Kinds.{table, rowIn, allows, chosen49, lengthOk, content}

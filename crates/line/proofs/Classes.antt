@@ -7,8 +7,8 @@ use native.Mathlib.Omega.{arith}
 use borrow.Author.Tests.{ne-eqb, eqb-true}
 use lib.Dec.{eqb}
 use lib.ListN.{length, length-append}
-use Rattle.octets.specs.Stuffing.{DLE, stuffed}
-use Rattle.octets.proofs.StuffingLaws.{stuffed-nil, stuffed-dle, stuffed-other, stuffed-append}
+use Rattle.stuffing.specs.Stuffing.{DLE, stuffed}
+use Rattle.stuffing.proofs.StuffingLaws.{stuffed-nil, stuffed-dle, stuffed-other, stuffed-append}
 use Rattle.line.specs.Frame.{ETX, SUM, Class, classOf}
 use Rattle.line.specs.Frame.Class.{dle, etx, sum, other}
 

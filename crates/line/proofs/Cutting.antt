@@ -8,8 +8,8 @@ use borrow.Author.Tests.{eqb-true, eqb-false}
 use lib.Dec.{eqb, ltb}
 use lib.ListN.{length, take, drop, length-append, take-append-drop, drop-of-length-le}
 use lib.Seq.{append-snoc, drop-at, length-take-le, take-all}
-use Rattle.octets.specs.Stuffing.{DLE, stuffed}
-use Rattle.octets.proofs.StuffingLaws.{stuffed-nil}
+use Rattle.stuffing.specs.Stuffing.{DLE, stuffed}
+use Rattle.stuffing.proofs.StuffingLaws.{stuffed-nil}
 use Rattle.checksum.specs.Checksum.{c1Of, c2Of}
 use Rattle.kinds.specs.Kinds.{content}
 use Rattle.line.specs.Frame.{ETX, SUM, Mode, Class, classOf, frame, agrees, judge}

@@ -9,7 +9,7 @@ use borrow.Author.Tests.{ltb-true, eqb-true, eqb-false}
 use lib.Dec.{eqb, ltb, lit<}
 use lib.ListN.{length, length-append}
 use lib.Seq.{append-snoc}
-use Rattle.octets.specs.Stuffing.{stuffed}
+use Rattle.stuffing.specs.Stuffing.{stuffed}
 use Rattle.kinds.specs.Kinds.{content}
 use Rattle.kinds.proofs.ContentLaws.{content-number}
 use Rattle.line.specs.Frame.{Mode, Class, modeOf, classOf, frame, agrees, judge, Acceptable}

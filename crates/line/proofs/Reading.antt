@@ -8,8 +8,8 @@ use borrow.Author.Tests.{lt-ltb, eq-eqb}
 use lib.Dec.{eqb}
 use lib.ListN.{length, length-append, replicate}
 use lib.Seq.{append-snoc}
-use Rattle.octets.specs.Stuffing.{DLE, stuffed}
-use Rattle.octets.proofs.StuffingLaws.{stuffed-nil}
+use Rattle.stuffing.specs.Stuffing.{DLE, stuffed}
+use Rattle.stuffing.proofs.StuffingLaws.{stuffed-nil}
 use Rattle.checksum.specs.Checksum.{c1Of, c2Of}
 use Rattle.kinds.specs.Kinds.{content}
 use Rattle.kinds.proofs.ContentLaws.{content-usable, content-length}

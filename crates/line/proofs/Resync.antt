@@ -4,8 +4,8 @@ use mathlib.Core.Path.{_≡_, refl, subst⁻¹}
 use Prim.Native.Nat.{ℕ}
 use lib.Dec.{ltb}
 use lib.ListN.{length}
-use Rattle.octets.specs.Stuffing.{DLE, stuffed}
-use Rattle.octets.proofs.StuffingLaws.{stuffed-nil}
+use Rattle.stuffing.specs.Stuffing.{DLE, stuffed}
+use Rattle.stuffing.proofs.StuffingLaws.{stuffed-nil}
 use Rattle.checksum.specs.Checksum.{c1Of, c2Of}
 use Rattle.line.specs.Frame.{ETX, Mode, Class, classOf, sumField, frame}
 use Rattle.line.specs.Frame.Mode.{plain, summed}

@@ -4,7 +4,7 @@ use mathlib.Core.List.{List, [], _∷_, _++_}
 use mathlib.Core.Path.{_≡_}
 use Prim.Native.Nat.{ℕ, zero, suc}
 use lib.Dec.{eqb}
-use Rattle.octets.specs.Stuffing.{DLE, stuffed}
+use Rattle.stuffing.specs.Stuffing.{DLE, stuffed}
 use Rattle.checksum.specs.Checksum.{c1Of, c2Of}
 use Rattle.kinds.specs.Kinds.{content}
 

@@ -1,7 +1,7 @@
 -- What the definitions say of bytes at hand, computed.
 use mathlib.Core.List.{[], _∷_, _++_}
 use mathlib.Core.Path.{_≡_, refl}
-use Rattle.octets.specs.Stuffing.{stuffed}
+use Rattle.stuffing.specs.Stuffing.{stuffed}
 use Rattle.checksum.specs.Checksum.{shifted, shiftedBy, afterByte, afterBytes, checksum}
 use Rattle.kinds.specs.Kinds.{table, rowIn, allows, lengthOk, content}
 use Rattle.line.specs.Frame.{classOf}

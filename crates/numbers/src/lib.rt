@@ -1,10 +1,9 @@
 // Numbers in bytes, low byte first.
 ghost use mathlib.Core.Path.{_≡_};
-ghost use mathlib.Core.Bool.{cond, _&&_};
+ghost use mathlib.Core.Bool.{cond};
 ghost use Prim.Native.Nat.{_^_, _<_};
 ghost use lib.Dec.{leb};
-ghost use Rattle.octets.specs.Placing.{fits, placed};
-ghost use Rattle.numbers.specs.Number.{numberAt, bytesOf};
+ghost use Rattle.numbers.specs.Number.{numberAt};
 
 // A byte as a wider number.
 fn wide(b: u8) -> u64
@@ -49,26 +48,4 @@ pub fn u64_at(s: &[u8], at: usize) -> u64
     ensures { λ r. ⌜ r ≡ numberAt (now (s .entry)) at 8 ⌝ }
 {
     number_at(s, at, 8)
-}
-
-// Puts the n bytes of x, eight at most, into the buffer from `at` on, and says whether they are within it. Where not, nothing is
-// written.
-pub fn put_number(buf: &mut [u8], at: usize, n: usize, x: u64) -> bool
-    ensures { λ r. ⌜ (r ≡ (leb n 8 && fits (now (buf .entry)) at n))
-        × (now (buf .exit) ≡ cond (leb n 8) (placed (now (buf .entry)) at (bytesOf n x)) (now (buf .entry))) ⌝ }
-{
-    if 8 < n {
-        return false;
-    }
-    if !octets::within(buf.len(), at, n) {
-        return false;
-    }
-    let mut left = x;
-    let mut k: usize = 0;
-    while k < n {
-        buf[at + k] = (left % 256) as u8;
-        left = left / 256;
-        k += 1;
-    }
-    true
 }

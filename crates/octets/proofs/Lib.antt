@@ -1,4 +1,2 @@
 pub mod Vectors
-pub mod StuffingLaws
 pub mod PlacingLaws
-pub mod PlainLaws

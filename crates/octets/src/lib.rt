@@ -1,9 +1,8 @@
-// Bytes: reading one, writing some into a lent buffer, and the byte 10h that stuffing doubles.
+// Bytes: reading one, and writing some into a lent buffer.
 ghost use mathlib.Core.Path.{_≡_};
 ghost use Prim.Native.Nat.{_+_};
 ghost use lib.Dec.{leb};
 ghost use lib.ListN.{length, getD};
-ghost use Rattle.octets.specs.Stuffing.{dles, fourPlain};
 ghost use Rattle.octets.specs.Placing.{fits, placed};
 
 // Whether n places from `at` on are within `len`; by a difference, since the sum could wrap.
@@ -40,32 +39,4 @@ pub fn put(src: &[u8], buf: &mut [u8], at: usize) -> bool
         k += 1;
     }
     true
-}
-
-// How many of the bytes are 10h, the byte that stuffing doubles.
-pub fn count_dle(s: &[u8]) -> usize
-    ensures { λ r. ⌜ r ≡ dles (now (s .entry)) ⌝ }
-{
-    let mut n: usize = 0;
-    let mut i: usize = 0;
-    while i < s.len() {
-        if s[i] == 0x10 {
-            n += 1;
-        }
-        i += 1;
-    }
-    n
-}
-
-// Whether four bytes from `at` on are there, and none of them is 10h: such bytes go on as they are, four at a time.
-pub fn four_plain(s: &[u8], at: usize) -> bool
-    ensures { λ r. ⌜ r ≡ fourPlain (now (s .entry)) at ⌝ }
-{
-    if s.len() < 4 {
-        return false;
-    }
-    if s.len() - 4 < at {
-        return false;
-    }
-    (s[at] != 0x10) & (s[at + 1] != 0x10) & (s[at + 2] != 0x10) & (s[at + 3] != 0x10)
 }

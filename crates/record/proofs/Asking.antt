@@ -7,8 +7,8 @@ use native.Mathlib.Omega.{arith}
 use borrow.Author.Tests.{eqb-true, eqb-false, eq-eqb, ne-eqb}
 use lib.Dec.{eqb}
 use lib.ListN.{length, take}
-use Rattle.octets.specs.Stuffing.{stuffed, dles}
-use Rattle.octets.proofs.StuffingLaws.{length-stuffed}
+use Rattle.stuffing.specs.Stuffing.{stuffed, dles}
+use Rattle.stuffing.proofs.StuffingLaws.{length-stuffed}
 use Rattle.kinds.specs.Kinds.{content}
 use Rattle.kinds.proofs.OnlyLaws.{test-4A, test-4B}
 use Rattle.line.specs.Frame.{Mode, modeOf, classOf}

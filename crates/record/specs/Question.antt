@@ -3,7 +3,7 @@ use mathlib.Core.List.{List}
 use mathlib.Core.Path.{_≡_}
 use Prim.Native.Nat.{ℕ, _+_, _≤_, _<_}
 use lib.ListN.{length, take}
-use Rattle.octets.specs.Stuffing.{dles}
+use Rattle.stuffing.specs.Stuffing.{dles}
 use Rattle.line.specs.Frame.{classOf}
 use Rattle.line.specs.Frame.Class.{other}
 use Rattle.line.specs.Record.{Possible, limit}

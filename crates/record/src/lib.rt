@@ -3,7 +3,7 @@ use latest::Latest;
 ghost use mathlib.Core.Path.{_≡_};
 ghost use Prim.Native.Nat.{_+_, _≤_};
 ghost use lib.ListN.{length, take};
-ghost use Rattle.octets.specs.Stuffing.{dles};
+ghost use Rattle.stuffing.specs.Stuffing.{dles};
 ghost use Rattle.latest.specs.Deciding.{Decides};
 ghost use Rattle.record.specs.Posts.{FreshPost, Refuses, blank as blankOf};
 ghost use Rattle.record.specs.Question.{Usable, Opened, Plausible, Questions, recordOf};
@@ -113,7 +113,7 @@ fn pending_of(h: Head, d: &[u8]) -> usize
     ensures { λ r. ⌜ r ≡ h .place + (h .len + dles (take (h .len) (now (d .entry)))) ⌝ }
 {
     let len = h.len;
-    h.place as usize + (len + octets::count_dle(&d[..len]))
+    h.place as usize + (len + stuffing::count_dle(&d[..len]))
 }
 
 // Question 2, but for the pending bytes of an open frame.

@@ -1,9 +1,34 @@
 // Rows of the sources' tables, packed one after the other.
 ghost use mathlib.Core.Path.{_≡_};
-ghost use mathlib.Core.Bool.{true};
+ghost use mathlib.Core.Bool.{true, cond, _&&_};
 ghost use Prim.Native.Nat.{_≤_};
+ghost use lib.Dec.{leb};
 ghost use lib.ListN.{length};
+ghost use Rattle.octets.specs.Placing.{fits, placed};
+ghost use Rattle.numbers.specs.Number.{bytesOf};
 ghost use Rattle.rows.specs.Layout.{laid, total, short, exact, packs, packed};
+
+// Puts the n bytes of x, eight at most, into the buffer from `at` on, and says whether they are within it. Where not, nothing is
+// written.
+fn put_number(buf: &mut [u8], at: usize, n: usize, x: u64) -> bool
+    ensures { λ r. ⌜ (r ≡ (leb n 8 && fits (now (buf .entry)) at n))
+        × (now (buf .exit) ≡ cond (leb n 8) (placed (now (buf .entry)) at (bytesOf n x)) (now (buf .entry))) ⌝ }
+{
+    if 8 < n {
+        return false;
+    }
+    if !octets::within(buf.len(), at, n) {
+        return false;
+    }
+    let mut left = x;
+    let mut k: usize = 0;
+    while k < n {
+        buf[at + k] = (left % 256) as u8;
+        left = left / 256;
+        k += 1;
+    }
+    true
+}
 
 // Whether no width is above eight and they add up to the room; by what is left of it, since the sum could wrap.
 fn exactly(widths: &[usize], room: usize) -> bool
@@ -35,7 +60,7 @@ fn fill(words: &[u64], widths: &[usize], out: &mut [u8])
     let mut i: usize = 0;
     while i < widths.len() {
         let n = widths[i];
-        numbers::put_number(out, at, n, words[i]);
+        put_number(out, at, n, words[i]);
         at += n;
         i += 1;
     }

@@ -4,8 +4,8 @@ use mathlib.Core.Path.{_≡_, refl}
 use Prim.Native.Nat.{ℕ, zero, suc, _+_}
 use native.Mathlib.Omega.{arith}
 use lib.ListN.{length, length-append}
-use Rattle.octets.specs.Stuffing.{stuffed, dles}
-use Rattle.octets.proofs.StuffingLaws.{length-stuffed}
+use Rattle.stuffing.specs.Stuffing.{stuffed, dles}
+use Rattle.stuffing.proofs.StuffingLaws.{length-stuffed}
 use Rattle.line.specs.Frame.{Mode, modeOf, sumField, frame}
 use Rattle.line.specs.Frame.Mode.{plain, summed}
 

@@ -5,7 +5,7 @@ ghost use mathlib.Core.Path.{_≡_};
 ghost use mathlib.Core.List.{_∷_, []};
 ghost use Prim.Native.Nat.{ℕ, _+_, _≤_};
 ghost use lib.ListN.{length};
-ghost use Rattle.octets.specs.Stuffing.{stuffed};
+ghost use Rattle.stuffing.specs.Stuffing.{stuffed};
 ghost use Rattle.octets.specs.Placing.{placed};
 ghost use Rattle.line.specs.Frame.{modeOf, sumField, frame};
 ghost use Rattle.writer.specs.Writing.{writtenOf, filledOf};
@@ -15,7 +15,7 @@ fn frame_length(mode: u8, body: &[u8]) -> usize
     requires { ⌜ length (now body) ≤ 1024 ⌝ }
     ensures { λ r. ⌜ ((id : ℕ) → r ≡ length (frame (modeOf mode) id (now (body .entry)))) ⌝ }
 {
-    let n = body.len() + octets::count_dle(body) + 4;
+    let n = body.len() + stuffing::count_dle(body) + 4;
     if mode == 0 {
         return n;
     }

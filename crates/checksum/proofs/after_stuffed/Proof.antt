@@ -1,6 +1,6 @@
 -- `checksum::after_stuffed` meets its contract: a byte of data that is 10h, and one that is not.
 use borrow.Author.Needs.{needs}
-use Rattle.octets.proofs.StuffingLaws.{stuffed-dle, stuffed-other}
+use Rattle.stuffing.proofs.StuffingLaws.{stuffed-dle, stuffed-other}
 use Rattle.checksum.specs.Checksum.{afterBytes}
 use Rattle.checksum.proofs.after_stuffed.Statement.{statement}
 use Rattle.checksum.proofs.after_stuffed.Tie as tie

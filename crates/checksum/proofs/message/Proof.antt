@@ -5,8 +5,8 @@ use native.Mathlib.Omega.{arith}
 use borrow.Author.Needs.{needs}
 use lib.ListN.{length, drop}
 use lib.Seq.{drop-length}
-use Rattle.octets.specs.Stuffing.{stuffed}
-use Rattle.octets.proofs.StuffingLaws.{stuffed-nil}
+use Rattle.stuffing.specs.Stuffing.{stuffed}
+use Rattle.stuffing.proofs.StuffingLaws.{stuffed-nil}
 use Rattle.checksum.specs.Checksum.{afterBytes, checksum}
 use Rattle.checksum.proofs.message.Statement.{statement}
 use Rattle.checksum.proofs.message.Tie as tie

@@ -6,7 +6,7 @@ use native.Mathlib.Numerals.{add-one}
 use native.Mathlib.Omega.{arith}
 use lib.ListN.{length, drop}
 use lib.Seq.{drop-cons}
-use Rattle.octets.proofs.PlainLaws.{Plain, plain-of}
+use Rattle.stuffing.proofs.PlainLaws.{Plain, plain-of}
 use Rattle.checksum.proofs.Fours.{four}
 use borrow.Author.Needs.{needs}
 use Rattle.checksum.proofs.onward.Statement.{statement}

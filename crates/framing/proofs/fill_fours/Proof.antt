@@ -6,7 +6,7 @@ use native.Mathlib.Omega.{arith}
 use borrow.Author.Needs.{needs}
 use denote.Ref.{now}
 use lib.ListN.{length}
-use Rattle.octets.proofs.PlainLaws.{Plain, plain-of}
+use Rattle.stuffing.proofs.PlainLaws.{Plain, plain-of}
 use Rattle.framing.specs.Moving.{Copied}
 use Rattle.framing.proofs.Bulk.{copied-none, copied-four}
 use Rattle.framing.proofs.fill_fours.Statement.{statement}

@@ -6,7 +6,7 @@ use borrow.Author.Needs.{needs}
 use lib.ListN.{take}
 use denote.Ref.{now}
 use lib.Seq.{length-take-le}
-use Rattle.octets.proofs.StuffingLaws.{dles-le}
+use Rattle.stuffing.proofs.StuffingLaws.{dles-le}
 use Rattle.record.proofs.pending_of.Statement.{statement}
 use Rattle.record.proofs.pending_of.Tie as tie
 

@@ -6,7 +6,7 @@ use native.Mathlib.Nat.{zero-add}
 use native.Mathlib.Omega.{arith}
 use borrow.Author.Needs.{needs}
 use lib.ListN.{length, length-append}
-use Rattle.octets.specs.Stuffing.{DLE, stuffed}
+use Rattle.stuffing.specs.Stuffing.{DLE, stuffed}
 use Rattle.octets.specs.Placing.{placed}
 use Rattle.octets.proofs.PlacingLaws.{placed-more}
 use Rattle.line.specs.Frame.{Mode, modeOf, ETX, sumField, frame}

@@ -1,7 +1,7 @@
 -- `frame_length` meets its contract by the law of the frame's length.
 use native.Mathlib.Omega.{arith}
 use borrow.Author.Needs.{needs}
-use Rattle.octets.proofs.StuffingLaws.{dles-le}
+use Rattle.stuffing.proofs.StuffingLaws.{dles-le}
 use Rattle.writer.proofs.FrameLength.{frame-plain, frame-summed, not-plain}
 use Rattle.writer.proofs.frame_length.Statement.{statement}
 use Rattle.writer.proofs.frame_length.Tie as tie

@@ -5,7 +5,7 @@ use Prim.Native.Nat.{_+_, _≤_, _<_}
 use native.Mathlib.Omega.{arith}
 use borrow.Author.Needs.{needs}
 use lib.ListN.{length, set, length-set}
-use Rattle.octets.proofs.StuffingLaws.{length-stuffed, stuffed-nil, stuffed-dle, stuffed-other}
+use Rattle.stuffing.proofs.StuffingLaws.{length-stuffed, stuffed-nil, stuffed-dle, stuffed-other}
 use Rattle.octets.proofs.PlacingLaws.{placed-one, placed-cons}
 use Rattle.writer.proofs.put_byte.Statement.{statement}
 use Rattle.writer.proofs.put_byte.Tie as tie

@@ -6,9 +6,9 @@ use native.Mathlib.Numerals.{add-one}
 use native.Mathlib.Omega.{arith}
 use lib.ListN.{length, drop, getD, length-append}
 use lib.Seq.{drop-cons, drop-length}
-use Rattle.octets.specs.Stuffing.{stuffed}
+use Rattle.stuffing.specs.Stuffing.{stuffed}
 use Rattle.octets.specs.Placing.{placed}
-use Rattle.octets.proofs.StuffingLaws.{stuffed-nil, stuffed-append}
+use Rattle.stuffing.proofs.StuffingLaws.{stuffed-nil, stuffed-append}
 use Rattle.octets.proofs.PlacingLaws.{placed-nil, placed-more, length-placed}
 use Rattle.writer.proofs.put_data.Statement.{statement}
 use Rattle.writer.proofs.put_data.Tie as tie

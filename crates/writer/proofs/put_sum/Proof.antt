@@ -4,7 +4,7 @@ use mathlib.Core.List.{[], _∷_}
 use Prim.Native.Nat.{ℕ, _/_, _%_}
 use native.Mathlib.Nat.{add-zero}
 use borrow.Author.Needs.{needs}
-use Rattle.octets.specs.Stuffing.{DLE}
+use Rattle.stuffing.specs.Stuffing.{DLE}
 use Rattle.octets.specs.Placing.{placed}
 use Rattle.octets.proofs.PlacingLaws.{placed-nil}
 use Rattle.line.specs.Frame.{SUM}

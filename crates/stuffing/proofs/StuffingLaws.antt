@@ -7,7 +7,7 @@ use native.Mathlib.Omega.{arith}
 use borrow.Author.Tests.{eq-eqb, ne-eqb}
 use lib.Dec.{eqb}
 use lib.ListN.{length}
-use Rattle.octets.specs.Stuffing.{DLE, stuffed, dles}
+use Rattle.stuffing.specs.Stuffing.{DLE, stuffed, dles}
 
 pub stuffed-nil : stuffed [] ≡ []
 unfolding stuffed

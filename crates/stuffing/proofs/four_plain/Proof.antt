@@ -1,4 +1,4 @@
--- `octets::four_plain` meets its contract.
+-- `stuffing::four_plain` meets its contract.
 use mathlib.Core.Bool.{false, _&&_}
 use mathlib.Core.List.{List}
 use mathlib.Core.Path.{_≡_, sym}
@@ -6,10 +6,10 @@ use Prim.Native.Nat.{ℕ, _+_, _≤_, _<_}
 use native.Mathlib.Omega.{arith}
 use borrow.Author.Tests.{lt-leb, le-leb}
 use lib.ListN.{length, getD}
-use Rattle.octets.specs.Stuffing.{other, fourPlain}
+use Rattle.stuffing.specs.Stuffing.{other, fourPlain}
 use borrow.Author.Needs.{needs}
-use Rattle.octets.proofs.four_plain.Statement.{statement}
-use Rattle.octets.proofs.four_plain.Tie as tie
+use Rattle.stuffing.proofs.four_plain.Statement.{statement}
+use Rattle.stuffing.proofs.four_plain.Tie as tie
 
 short : (s : List ℕ) (i : ℕ) → length s < i + 4 → false ≡ fourPlain s i
 unfolding fourPlain

@@ -1,4 +1,4 @@
--- `numbers::put_number` meets its contract. The loop's invariant: placing the bytes of what is left is placing all of them.
+-- `rows::put_number` meets its contract. The loop's invariant: placing the bytes of what is left is placing all of them.
 use mathlib.Core.Path.{_≡_, refl, sym, _∙_}
 use Prim.Native.Nat.{suc, _+_, _-_, _/_, _%_, _≤_, _<_}
 use native.Mathlib.Nat.{add-zero, add-assoc}
@@ -6,12 +6,12 @@ use native.Mathlib.Omega.{arith}
 use borrow.Author.Needs.{needs}
 use borrow.Author.Tests.{le-leb, lt-leb, leb-true, leb-false, not-true, not-false}
 use lib.ListN.{length, length-set}
 use Rattle.numbers.specs.Number.{bytesOf}
 use Rattle.octets.specs.Placing.{placed}
 use Rattle.numbers.proofs.NumberLaws.{length-bytes}
 use Rattle.octets.proofs.PlacingLaws.{placed-out, placed-nil, placed-cons}
-use Rattle.numbers.proofs.put_number.Statement.{statement}
-use Rattle.numbers.proofs.put_number.Tie as tie
+use Rattle.rows.proofs.put_number.Statement.{statement}
+use Rattle.rows.proofs.put_number.Tie as tie
 
 abbrev Inv-loop : tie.InvT-loop
 Inv-loop buf₀ at n x left₀ k₀ buf left k = (k ≤ n) × (length buf ≡ length buf₀) × (placed buf (at + k) (bytesOf (n - k) left) ≡ placed buf₀ at (bytesOf n x))

@@ -1,4 +1,4 @@
--- `octets::count_dle` meets its contract. The loop's invariant: those counted, and those still to come, are all.
+-- `stuffing::count_dle` meets its contract. The loop's invariant: those counted, and those still to come, are all.
 use mathlib.Core.Path.{_≡_}
 use mathlib.Core.List.{[], _∷_}
 use mathlib.Core.Logic.{⊎-elim}
@@ -7,10 +7,10 @@ use native.Mathlib.Numerals.{add-one}
 use native.Mathlib.Omega.{arith}
 use lib.ListN.{length, drop, getD}
 use lib.Seq.{drop-cons, drop-length}
-use Rattle.octets.specs.Stuffing.{dles}
-use Rattle.octets.proofs.StuffingLaws.{dles-append, dles-dle, dles-other}
-use Rattle.octets.proofs.count_dle.Statement.{statement}
-use Rattle.octets.proofs.count_dle.Tie as tie
+use Rattle.stuffing.specs.Stuffing.{dles}
+use Rattle.stuffing.proofs.StuffingLaws.{dles-append, dles-dle, dles-other}
+use Rattle.stuffing.proofs.count_dle.Statement.{statement}
+use Rattle.stuffing.proofs.count_dle.Tie as tie
 
 abbrev Inv-loop : tie.InvT-loop
 Inv-loop s n₀ i₀ n i = (i ≤ length s) × (n ≤ i) × (n + dles (drop i s) ≡ dles s)

@@ -6,7 +6,7 @@ use Prim.Native.Nat.{ℕ, _+_, _≤_}
 use borrow.Author.Tests.{leb-true, not-true, eqb-false}
 use lib.Dec.{eqb, leb}
 use lib.ListN.{length, getD}
-use Rattle.octets.specs.Stuffing.{DLE, other, fourPlain}
+use Rattle.stuffing.specs.Stuffing.{DLE, other, fourPlain}
 
 pub record Plain (s : List ℕ) (i : ℕ) : Type 0 where
   pub there : i + 4 ≤ length s
