@@ -9,7 +9,7 @@ use borrow.Author.Count.{below-more}
 use lib.Bits.{bitOr}
 use lib.Dec.{eqb, leb}
 use Rattle.limits.specs.Ranges.{byte, between, satellite, count, all, once, in47}
-use Rattle.range_satellites.proofs.BitLaws.{bit, bit-zero, bit-set}
+use Rattle.range_uses.proofs.BitLaws.{bit, bit-zero, bit-set}
 use Rattle.limits.proofs.CountLaws.{fails, never, all-at, all-of, count-more, count-same, count-le, each-once}
 
 abbrev pub placeOf : ℕ → ℕ → ℕ

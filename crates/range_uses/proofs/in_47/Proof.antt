@@ -7,10 +7,10 @@ use native.Mathlib.Omega.{arith}
 use borrow.Author.Needs.{needs}
 use borrow.Author.Tests.{not-true, not-false, eqb-true, eqb-false}
 use Rattle.limits.specs.Ranges.{between, satellite}
-use Rattle.range_satellites.proofs.BitLaws.{bit}
-use Rattle.range_satellites.proofs.OnceLaws.{Seen, valid, valid-is, placeOf, placeAt, place-lt, seen-none, seen-more, seen-all, seen-bad, seen-twice}
-use Rattle.range_satellites.proofs.in_47.Statement.{statement}
-use Rattle.range_satellites.proofs.in_47.Tie as tie
+use Rattle.range_uses.proofs.BitLaws.{bit}
+use Rattle.range_uses.proofs.OnceLaws.{Seen, valid, valid-is, placeOf, placeAt, place-lt, seen-none, seen-more, seen-all, seen-bad, seen-twice}
+use Rattle.range_uses.proofs.in_47.Statement.{statement}
+use Rattle.range_uses.proofs.in_47.Tie as tie
 
 abbrev Inv-loop : tie.InvT-loop
 Inv-loop body seen₀ i₀ seen i = (i ≤ 56) × Seen body seen i

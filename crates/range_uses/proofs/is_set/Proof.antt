@@ -4,8 +4,8 @@ use Prim.Native.Nat.{ℕ, _/_, _^_}
 use borrow.Author.Needs.{needs}
 use lib.Bits.{and-mask}
 use lib.Dec.{eqb}
-use Rattle.range_satellites.proofs.is_set.Statement.{statement}
-use Rattle.range_satellites.proofs.is_set.Tie as tie
+use Rattle.range_uses.proofs.is_set.Statement.{statement}
+use Rattle.range_uses.proofs.is_set.Tie as tie
 
 shr-result : tie.Need-shr-result
 shr-result c = search needs

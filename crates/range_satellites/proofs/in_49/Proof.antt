@@ -1,8 +1,8 @@
 -- `in_49` meets its contract: each field is what its reader ensures.
 use borrow.Author.Needs.{sfits-of, needs}
 use mir.Facts.{toZ-ofZ}
-use Rattle.range_views.proofs.in_49.Statement.{statement}
-use Rattle.range_views.proofs.in_49.Tie as tie
+use Rattle.range_satellites.proofs.in_49.Statement.{statement}
+use Rattle.range_satellites.proofs.in_49.Tie as tie
 
 byte-at-requires : tie.Need-byte-at-requires
 byte-at-requires c κs = search needs

@@ -3,8 +3,8 @@ use Prim.Native.Nat.{_^_}
 use native.Mathlib.Nat.{one-mul, mod-eq-of-lt}
 use borrow.Author.Needs.{needs}
 use lib.Pow.{pow-lt}
-use Rattle.range_satellites.proofs.set_bit.Statement.{statement}
-use Rattle.range_satellites.proofs.set_bit.Tie as tie
+use Rattle.range_uses.proofs.set_bit.Statement.{statement}
+use Rattle.range_uses.proofs.set_bit.Tie as tie
 
 shl-result : tie.Need-shl-result
 shl-result c = search needs

@@ -1,9 +1,9 @@
 -- `place` meets its contract: a satellite has a system and a number from 1 on.
 use native.Mathlib.Omega.{arith}
 use borrow.Author.Needs.{needs}
-use Rattle.range_satellites.proofs.OnceLaws.{satellite-is}
-use Rattle.range_satellites.proofs.place.Statement.{statement}
-use Rattle.range_satellites.proofs.place.Tie as tie
+use Rattle.range_uses.proofs.OnceLaws.{satellite-is}
+use Rattle.range_uses.proofs.place.Statement.{statement}
+use Rattle.range_uses.proofs.place.Tie as tie
 
 sub-result : tie.Need-sub-result
 sub-result c = let s = satellite-is (c .args .system) (c .args .number) (c .pre) in omega arith
