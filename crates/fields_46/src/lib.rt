@@ -61,8 +61,8 @@ fn words_46(f: Time) -> [u64; 6]
         f.day as u64,
         f.month as u64,
         f.year as u64,
-        types::int8s_bits(f.hours),
-        types::int8s_bits(f.minutes),
+        signed::int8_byte(f.hours) as u64,
+        signed::int8_byte(f.minutes) as u64,
     ]
 }
 

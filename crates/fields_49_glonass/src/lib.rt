@@ -33,7 +33,7 @@ fn words_glonass(f: Glonass) -> [u64; 16]
     [
         2,
         f.number as u64,
-        types::int8s_bits(f.carrier),
+        signed::int8_byte(f.carrier) as u64,
         f.x,
         f.y,
         f.z,

@@ -17,24 +17,30 @@ cast-t3 : tie.Need-cast-t3
 cast-t3 c = omega (arith, c .struct-known2 .given)
 
 cast-t5 : tie.Need-cast-t5
-cast-t5 c = omega (arith, c .struct-known3 .given)
+cast-t5 c = search needs
 
 cast-t6 : tie.Need-cast-t6
-cast-t6 c = omega (arith, c .struct-known4 .given)
+cast-t6 c = omega (arith, c .struct-known3 .given)
 
-cast-t8 : tie.Need-cast-t8
-cast-t8 c = omega (arith, c .struct-known5 .given)
+cast-t7 : tie.Need-cast-t7
+cast-t7 c = omega (arith, c .struct-known4 .given)
 
 cast-t9 : tie.Need-cast-t9
-cast-t9 c = omega (arith, c .struct-known6 .given)
+cast-t9 c = search needs
 
 cast-t10 : tie.Need-cast-t10
-cast-t10 c = omega (arith, c .struct-known7 .given)
+cast-t10 c = omega (arith, c .struct-known5 .given)
+
+cast-t11 : tie.Need-cast-t11
+cast-t11 c = omega (arith, c .struct-known6 .given)
+
+cast-t12 : tie.Need-cast-t12
+cast-t12 c = omega (arith, c .struct-known7 .given)
 
 returns : tie.Need-returns
 returns c =
     let g = c .before .before .before .before .before .before .before .before .before .before .before in
-    rw (c .before .before .before .before .before .before .before .int16s-bits .ensures, c .before .before .before .int16s-bits2 .ensures, toZ-ofZ (fits g .0), toZ-ofZ (fits g .1))
+    rw (c .before .before .before .before .before .before .before .int16-word .ensures, c .before .before .before .int16-word2 .ensures, toZ-ofZ (fits g .0), toZ-ofZ (fits g .1))
 
 pub words-4b-spec : {M : Type 1} → statement M
 words-4b-spec =
@@ -45,8 +51,10 @@ words-4b-spec =
     (λ _ _. tt)
     cast-t5
     cast-t6
+    cast-t7
     (λ _ _. tt)
-    cast-t8
     cast-t9
     cast-t10
+    cast-t11
+    cast-t12
     returns)
