@@ -88,23 +88,12 @@ fn open(h: Head) -> bool
     usable(h.id)
 }
 
-// Whether fed is the sum of the other four counts. By differences, so that no wider number is needed.
+// Whether fed is the sum of the other four counts, which may be wider than each.
 fn balanced(h: Head) -> bool
     ensures { λ r. ⌜ Decides (h .fed ≡ h .accepted + h .refused + h .outside + h .pending) r ⌝ }
 {
-    if h.fed < h.accepted {
-        return false;
-    }
-    let a = h.fed - h.accepted;
-    if a < h.refused {
-        return false;
-    }
-    let b = a - h.refused;
-    if b < h.outside {
-        return false;
-    }
-    let c = b - h.outside;
-    if c == h.pending { true } else { false }
+    let sum = h.accepted as u64 + h.refused as u64 + h.outside as u64 + h.pending as u64;
+    if h.fed as u64 == sum { true } else { false }
 }
 
 // The pending bytes of an open frame: its place, its data and each DLE among them once more.
