@@ -1,13 +1,14 @@
 -- Laws of counting: what one slice call of the reader comes to, in front of the rest.
 use mathlib.Core.Bool.{Bool, true, false, cond}
 use mathlib.Core.List.{List, [], _∷_}
-use mathlib.Core.Path.{_≡_, refl, sym, ap, _∙_, subst⁻¹}
+use mathlib.Core.Path.{_≡_, refl, sym, ap, _∙_, subst, subst⁻¹}
 use Prim.Native.Nat.{ℕ, _+_, _≤_, _<_}
-use native.Mathlib.Nat.{zero-add}
+use native.Mathlib.Nat.{add-zero, zero-add}
 use native.Mathlib.Omega.{arith}
 use borrow.Author.Tests.{le-ltb, ltb-true, ltb-false}
 use lib.Dec.{ltb}
-use lib.ListN.{drop}
+use lib.ListN.{length, drop, length-drop}
+use lib.Seq.{drop-drop}
 use Rattle.line.specs.Table.{Event}
 use Rattle.line.specs.Table.Event.{nothing, message, refusal}
 use Rattle.line.specs.Record.{Rec, Possible, Result, limit, eventOf, stepped, orStop, walk}
@@ -19,7 +20,7 @@ use Rattle.reader.specs.Posts.{FeedPost}
 use Rattle.lister.specs.Counting.{one, raised, countShown}
 use Rattle.lister.specs.Posts.{CountPost}
 use Rattle.lister.proofs.PieceLaws.{walk-mode, walk-possible}
-use Rattle.lister.proofs.FeedLaws.{passed}
+use Rattle.lister.proofs.FeedLaws.{passed, taken-fits}
 
 module _ (r : Rec) (b : ℕ) (bs : List ℕ) where
   abbrev rest : Result
@@ -105,3 +106,38 @@ count-more r s x q h n o =
 
     event : countShown (x .answer .event) ≡ one (walk (view r) s .answer)
     event = ap (λ (y : Parts). countShown (y .event)) (w .1) ∙ count-shown (walk (view r) s .answer)
+
+-- at bytes of s were taken by the reader r₀, which is r now, and n events counted
+pub record Counted (r₀ : Reader) (s : List ℕ) (r : Reader) (at n : ℕ) : Type 0 where
+  pub within : at ≤ length s
+  pub few : n ≤ at
+  pub whole : length (r .bytes) ≡ 1024
+  pub right : (m : ℕ) → CountPost r (drop at s) m → CountPost r₀ s (n + m)
+
+pub counted-none : (r : Reader) (s : List ℕ) → length (r .bytes) ≡ 1024 → Counted r s r 0 0
+counted-none r s w = record { within = omega arith; few = omega arith; whole = w; right = λ m o. rw zero-add o }
+
+module _ {r₀ : Reader} {s : List ℕ} {r : Reader} {at n : ℕ} (w : Counted r₀ s r at n) (x : Fed) (q : FeedPost r (drop at s) x) where
+  pub counted-within : at + x .taken ≤ length s
+  counted-within = omega (arith, taken-fits r (drop at s) x q, length-drop at s, w .within)
+
+  -- something was taken, and its event counted
+  pub counted-more : (j : ℕ) → 0 < x .taken → length (x .reader .bytes) ≡ 1024 → j ≡ countShown (x .answer .event) → j ≤ 1
+      → Counted r₀ s (x .reader) (at + x .taken) (n + j)
+  counted-more j h k ej hj =
+      record {
+        within = counted-within;
+        few = omega (arith, w .few);
+        whole = k;
+        right = λ m o.
+            let o′ : CountPost (x .reader) (drop (x .taken) (drop at s)) m =
+            subst (λ (d : List ℕ). CountPost (x .reader) d m) (sym (drop-drop (x .taken) at s)) o in
+            let u : CountPost r₀ s (n + (countShown (x .answer .event) + m)) =
+            w .right (countShown (x .answer .event) + m) (count-more r (drop at s) x q h m o′) in
+            let z : n + (countShown (x .answer .event) + m) ≡ n + j + m = omega arith in
+            subst (λ (y : ℕ). CountPost r₀ s y) z u;
+      }
+
+  -- nothing was taken
+  pub counted-last : x .taken ≡ 0 → CountPost r₀ s n
+  counted-last z = subst (λ (y : ℕ). CountPost r₀ s y) (add-zero n) (w .right 0 (count-last r (drop at s) x q z))

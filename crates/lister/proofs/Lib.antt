@@ -2,7 +2,6 @@ pub mod PieceLaws
 pub mod FeedLaws
 pub mod Turns
 pub mod CountLaws
-pub mod Scanning
 pub mod PartLaws
 pub mod FreshLaws
 pub mod Printing

@@ -1,5 +1,4 @@
 -- What the calls return and leave.
-use mathlib.Core.Bool.{Bool, true, false, cond}
 use mathlib.Core.List.{List, [], _++_}
 use mathlib.Core.Path.{_≡_}
 use Prim.Native.Nat.{ℕ, _≤_}
@@ -7,25 +6,15 @@ use lib.ListN.{length, take, drop}
 use Rattle.octets.specs.Placing.{placed}
 use Rattle.line.specs.Record.{Asked, Possible}
 use Rattle.record.specs.declared.Reader.{Reader}
-use Rattle.record.specs.declared.Fed.{Fed}
 use Rattle.record.specs.declared.Event.{Event}
 use Rattle.record.specs.declared.Event.the-variants.{Nothing, Message, Refusal}
 use Rattle.record.specs.View.{view}
+use Rattle.reader.specs.declared.InPlace.{InPlace}
 use Rattle.listing.specs.Text.{eventLine}
 use Rattle.lister.specs.declared.Part.{Part}
-use Rattle.lister.specs.declared.Scanned.{Scanned}
 use Rattle.totals.specs.Totals.{Counts, totalOf}
 use Rattle.lister.specs.Listing.{piece}
 use Rattle.lister.specs.Counting.{raised}
-
--- a call that took nothing yet
-abbrev pub begun : Reader → Fed
-begun r =
-    record {
-      reader = r;
-      answer = record { event = Nothing; id = 0; len = 0; bytes = r .bytes; closed = 0 };
-      taken = 0;
-    }
 
 -- a part of a listing: refused by 1 or 2, nothing is listed, and else a piece. Of question 3 the piece says where it stops
 abbrev pub PartPost : Reader → List ℕ → List ℕ → Part → List ℕ → Type 0
@@ -51,7 +40,11 @@ pub data Prints : Reader → List ℕ → List ℕ → Type 0 where
   part : {r : Reader} {out : List ℕ} (s m b : List ℕ) (x : Part) (b′ : List ℕ) → PartPost r s b x b′ → Counts (x .length) b′
       → Prints (x .reader) (drop (x .taken) (s ++ m)) out → Prints r (s ++ m) (take (x .length) b′ ++ out)
 
--- of private functions: a reader that questions 1 and 2 let pass
+-- of private functions: nothing is taken yet
+abbrev pub begun : Reader → InPlace
+begun r = record { head = r .head; latest = r .latest; event = Nothing; id = 0; len = 0; closed = 0; taken = 0 }
+
+-- a reader that questions 1 and 2 let pass
 abbrev pub Good : Reader → Type 0
 Good r = (r .head .mode ≤ 1) × Possible (view r)
 
@@ -65,14 +58,3 @@ abbrev pub lineShown : ℕ → Event → ℕ → ℕ → List ℕ
 lineShown offset Nothing id n = []
 lineShown offset Message id n = eventLine offset id 0 n
 lineShown offset (Refusal v) id n = eventLine offset id v n
-
--- and where lines may not be wanted
-abbrev pub lineIf : Bool → ℕ → Event → ℕ → ℕ → List ℕ
-lineIf lines offset e id n = cond lines (lineShown offset e id n) []
-
--- of a private function: a part of a listing where lines are wanted, and else the events alone
-pub record ScanPost (lines : Bool) (r : Reader) (s b : List ℕ) (x : Scanned) (b′ : List ℕ) : Type 0 where
-  pub part : lines ≡ true → PartPost r s b (x .part) b′
-  pub count : lines ≡ false → CountPost r s (x .events)
-  pub within : x .part .taken ≤ length s
-  pub counts : Counts (x .part .length) b′

@@ -1,23 +1,25 @@
 -- From what an act comes to, to what the slice call returns.
 use mathlib.Core.List.{List}
-use mathlib.Core.Path.{_≡_, refl, sym, _∙_, subst}
+use mathlib.Core.Path.{_≡_, refl, sym, ap, _∙_, subst}
 use Prim.Native.Nat.{ℕ, _+_}
 use native.Mathlib.Omega.{arith}
-use lib.ListN.{take}
-use Rattle.line.specs.Record.{Kept, Result}
+use lib.ListN.{length, take}
+use Rattle.line.specs.Table.Event.{refusal}
+use Rattle.line.specs.Record.{Kept, Possible, Result}
 use Rattle.latest.specs.Latest.{latestOf}
 use Rattle.latest.specs.declared.Latest.{Latest}
-use Rattle.record.specs.View.{placeOf, dataOf}
-use Rattle.record.specs.Question.{recordOf}
+use Rattle.record.specs.View.{placeOf, dataOf, view, partsOf, shown}
+use Rattle.record.specs.Question.{recordOf, Valid}
 use Rattle.record.specs.declared.Reader.{Reader}
-use Rattle.record.specs.declared.Fed.{Fed}
+use Rattle.record.specs.declared.Event.the-variants.{Refusal}
 use Rattle.framing.specs.Moving.{Out, baseOf, resultOf, turned}
 use Rattle.framing.specs.Posts.{FramePost}
 use Rattle.framing.specs.declared.Moved.{Moved}
 use Rattle.framing.specs.declared.Framed.{Framed}
-use Rattle.reader.specs.Posts.{FeedPost, Reads}
+use Rattle.reader.specs.Posts.{FeedPost, Reads, InPlacePost, fedOf}
 use Rattle.reader.specs.Closing.{Finishes, storedBy}
 use Rattle.reader.specs.declared.Closed.{Closed}
+use Rattle.reader.specs.declared.InPlace.{InPlace}
 
 module _ (r : Reader) (t : Moved) where
   -- what is left to do
@@ -51,14 +53,50 @@ module _ (r : Reader) (t : Moved) where
         taken = refl;
       }
 
--- where questions 1 to 3 are yes
-pub answers : (r : Reader) (a s : List ℕ) (y : Framed) (x : Fed) → FramePost (r .head) (r .latest) (r .bytes) a s y → y .refusal ≡ 0
-    → Reads (resultOf (out (recordOf (r .head) (r .latest) a) (y .moved)) (y .moved .at)) x → FeedPost r s x
-answers r a s y x p e g =
-    let w = subst (λ (z : Result). Reads z x) (sym (p .ready e .says)) g in
+-- where one of questions 1 to 3 is no
+pub refuses : (r : Reader) (a s : List ℕ) (y : Framed) → FramePost (r .head) (r .latest) (r .bytes) a s y → (y .refusal ≡ 0 → ⊥)
+    → InPlacePost (r .head) (r .latest) (r .bytes) a s
+    (record { head = r .head; latest = r .latest; event = Refusal (y .refusal); id = 0; len = 0; closed = 0; taken = 0 })
+unfolding dataOf
+refuses r a s y p n =
+    let same = p .same n .0 in
     record {
-      one = λ z. absurd (let n : ⊥ = omega (arith, z, p .asked .mode e) in n);
-      two = λ z h. absurd (h (p .asked .valid e .possible));
-      three = λ z q o l. absurd (let n : ⊥ = omega (arith, l, p .asked .room e o) in n);
-      rest = λ z q o. (w .after, w .said, w .taken);
+      v = y .refusal;
+      asked = p .asked;
+      refused = λ _. record { same = λ i. recordOf (r .head) (r .latest) (same i); said = refl; taken = refl };
+      read = λ e. absurd (n e);
+      whole = λ w. ap length same ∙ w;
     }
+
+-- where questions 1 to 3 are yes
+pub answers : (r : Reader) (a s : List ℕ) (y : Framed) (x : InPlace) → FramePost (r .head) (r .latest) (r .bytes) a s y → y .refusal ≡ 0
+    → Reads (resultOf (out (recordOf (r .head) (r .latest) a) (y .moved)) (y .moved .at)) (fedOf x a)
+    → InPlacePost (r .head) (r .latest) (r .bytes) a s x
+answers r a s y x p e g =
+    record {
+      v = y .refusal;
+      asked = p .asked;
+      refused = λ n. absurd (n e);
+      read = λ z. subst (λ (w : Result). Reads w (fedOf x a)) (sym (p .ready e .says)) g;
+      whole = λ w. p .ready e .whole;
+    }
+
+-- the call in place is the call on the record by value
+pub feeds : (r : Reader) (a s : List ℕ) (x : InPlace) → length (r .bytes) ≡ 1024 → InPlacePost (r .head) (r .latest) (r .bytes) a s x
+    → FeedPost r s (fedOf x a)
+feeds r a s x w p =
+    record {
+      one = λ z. by 1 (p .asked .one z) (λ n. absurd (omega arith));
+      two = λ z g. by 2 (p .asked .two z (λ u. g (u .possible))) (λ n. absurd (omega arith));
+      three = λ z q o l. by 3 (p .asked .three z (valid q) o l) (λ n. absurd (omega arith));
+      rest = λ z q o. let y = p .read (p .asked .rest z (valid q) o) in (y .after, y .said, y .taken);
+    }
+  where
+    valid : Possible (view r) → Valid r
+    valid q = record { whole = w; possible = q }
+
+    by : (k : ℕ) → p .v ≡ k → (k ≡ 0 → ⊥)
+        → (fedOf x a .reader ≡ r) × (partsOf (fedOf x a .answer) ≡ shown (refusal k 0 0)) × (x .taken ≡ 0)
+    by k e n =
+        let y = p .refused (λ z. n (sym e ∙ z)) in
+        (y .same, y .said ∙ ap (λ (j : ℕ). shown (refusal j 0 0)) e, y .taken)

@@ -2,6 +2,7 @@
 use framing::Act;
 use framing::Moved;
 use framing::Moving;
+use latest::Latest;
 use record::Answer;
 use record::Event;
 use record::Fed;
@@ -16,7 +17,7 @@ ghost use lib.ListN.{length, take};
 ghost use Rattle.line.specs.Frame.{modeOf, judge as judgeOf};
 ghost use Rattle.line.specs.Record.{limit, Kept};
 ghost use Rattle.framing.specs.Moving.{Busy, turned, baseOf};
-ghost use Rattle.reader.specs.Posts.{FeedPost};
+ghost use Rattle.reader.specs.Posts.{FeedPost, InPlacePost};
 ghost use Rattle.reader.specs.Closing.{Finishes, headWith, resumed, reopenedBy, concludedBy, concluded};
 
 // What an act comes to: the head, the answer's parts, and whether a message was given.
@@ -27,6 +28,17 @@ pub struct Closed {
     pub len: usize,
     pub closed: u32,
     pub keep: bool,
+}
+
+// What a call in place leaves and answers: the record but for its array, the answer but for its data.
+pub struct InPlace {
+    pub head: Head,
+    pub latest: Latest,
+    pub event: Event,
+    pub id: u8,
+    pub len: usize,
+    pub closed: u32,
+    pub taken: usize,
 }
 
 // Questions 9 to 12 of a frame that ends.
@@ -157,44 +169,68 @@ fn finish(h: Head, t: Moved, d: &[u8]) -> Closed
     }
 }
 
-// The slice call: bytes up to the first event, the end of the slice or the limit. One function, since each that a record passes
-// through copies its array.
-pub fn feed(old: Reader, s: &[u8]) -> Fed
-    ensures { λ x. ⌜ FeedPost old (now (s .entry)) x ⌝ }
+// The slice call on a record whose array stays where it is. A message's data are the array's first `len` bytes.
+pub fn feed_in_place(h: Head, l: Latest, d: &mut [u8; 1024], s: &[u8]) -> InPlace
+    ensures { λ x. ⌜ InPlacePost h l (now (d .entry)) (now (d .exit)) (now (s .entry)) x ⌝ }
 {
-    let h = old.head;
-    let l = old.latest;
-    let mut r = old;
-    let f = framing::frame(h, l, &mut r.bytes, s);
+    let f = framing::frame(h, l, d, s);
     let v = f.refusal;
     if v != 0 {
-        return r.refuse(v);
+        return InPlace {
+            head: h,
+            latest: l,
+            event: Event::Refusal(v),
+            id: 0,
+            len: 0,
+            closed: 0,
+            taken: 0,
+        };
     }
     let t = f.moved;
-    let o = finish(h, t, &r.bytes);
+    let o = finish(h, t, d);
     let g = o.head;
-    r.head = g;
     let e = o.event;
-    let bytes = r.bytes;
-    let a = Answer {
+    let mut last = l;
+    if o.keep {
+        last = latest::store(l, o.id, d, o.len);
+    }
+    InPlace {
+        head: g,
+        latest: last,
         event: e,
         id: o.id,
         len: o.len,
-        bytes: bytes,
         closed: o.closed,
-    };
-    if o.keep {
-        let last = latest::store(l, o.id, &r.bytes, o.len);
-        r.latest = last;
-        return Fed {
-            reader: r,
-            answer: a,
-            taken: t.at,
-        };
-    }
-    Fed {
-        reader: r,
-        answer: a,
         taken: t.at,
+    }
+}
+
+// The slice call: bytes up to the first event, the end of the slice or the limit.
+pub fn feed(r: Reader, s: &[u8]) -> Fed
+    ensures { λ x. ⌜ FeedPost r (now (s .entry)) x ⌝ }
+{
+    let h = r.head;
+    let l = r.latest;
+    let mut bytes = r.bytes;
+    let x = feed_in_place(h, l, &mut bytes, s);
+    let head = x.head;
+    let latest = x.latest;
+    let event = x.event;
+    let reader = Reader {
+        head: head,
+        latest: latest,
+        bytes: bytes,
+    };
+    let answer = Answer {
+        event: event,
+        id: x.id,
+        len: x.len,
+        bytes: bytes,
+        closed: x.closed,
+    };
+    Fed {
+        reader: reader,
+        answer: answer,
+        taken: x.taken,
     }
 }

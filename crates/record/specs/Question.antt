@@ -1,4 +1,4 @@
--- The clauses of question 2 as the code asks them. `Asking` of the proofs says that together they are `Possible` of `line`.
+-- Questions 1 to 3 as the code asks them. `Asking` of the proofs says that the clauses of question 2 are together `Possible` of `line`.
 use mathlib.Core.List.{List}
 use mathlib.Core.Path.{_≡_}
 use Prim.Native.Nat.{ℕ, _+_, _≤_, _<_}

@@ -1,11 +1,11 @@
-// The reader's record, a fresh one, and question 2: whether a record can be a reader's.
+// The reader's record, a fresh one, and questions 1 to 3: whether a call can use a record.
 use latest::Latest;
 ghost use mathlib.Core.Path.{_≡_};
 ghost use Prim.Native.Nat.{_+_, _≤_};
 ghost use lib.ListN.{length, take};
 ghost use Rattle.stuffing.specs.Stuffing.{dles};
 ghost use Rattle.latest.specs.Deciding.{Decides};
-ghost use Rattle.record.specs.Posts.{FreshPost, Refuses, blank as blankOf};
+ghost use Rattle.record.specs.Posts.{FreshPost, blank as blankOf};
 ghost use Rattle.record.specs.Question.{Usable, Opened, Plausible, Questions, recordOf};
 
 // The numbers of the record. Mode and place are numbers, so that a wrong one can be refused.
@@ -213,25 +213,6 @@ impl Reader {
         Fresh {
             refusal: 1,
             reader: reader,
-        }
-    }
-
-    // Refused by 1, 2 or 3: the record as it was, and an answer with nothing in it.
-    pub fn refuse(self, n: u8) -> Fed
-        ensures { λ r. ⌜ Refuses n self r ⌝ }
-    {
-        let bytes = self.bytes;
-        let answer = Answer {
-            event: Event::Refusal(n),
-            id: 0,
-            len: 0,
-            bytes: bytes,
-            closed: 0,
-        };
-        Fed {
-            reader: self,
-            answer: answer,
-            taken: 0,
         }
     }
 }

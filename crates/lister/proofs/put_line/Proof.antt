@@ -1,11 +1,10 @@
 -- `put_line` meets its contract: no line is longer than the room.
-use mathlib.Core.Bool.{Bool, true}
 use mathlib.Core.Path.{_≡_, sym, ap, _∙_}
 use mathlib.Core.List.{List, []}
 use Prim.Native.Nat.{ℕ, _≤_}
 use native.Mathlib.Omega.{arith}
 use borrow.Author.Needs.{needs}
-use borrow.Author.Tests.{le-ltb, not-true, not-false}
+use borrow.Author.Tests.{le-ltb}
 use lib.ListN.{length}
 use Rattle.octets.specs.Placing.{placed}
 use Rattle.octets.proofs.PlacingLaws.{placed-nil}
@@ -14,7 +13,7 @@ use Rattle.record.specs.declared.Event.{Event}
 use Rattle.listing.specs.Text.{writtenOf}
 use Rattle.listing.proofs.LineLaws.{event-longest}
 use Rattle.lister.specs.Listing.{longest}
-use Rattle.lister.specs.Posts.{lineShown, lineIf}
+use Rattle.lister.specs.Posts.{lineShown}
 use Rattle.lister.proofs.put_line.Statement.{statement}
 use Rattle.lister.proofs.put_line.Tie as tie
 
@@ -33,14 +32,9 @@ whole w t u b b′ q e f h k =
 silent : (u b : List ℕ) → u ≡ [] → Wrote 0 u b b
 silent u b e = (sym (ap length e), sym (ap (placed b 0) e ∙ placed-nil b 0), omega arith)
 
--- the line of an event that is known, where lines are wanted
-line : (lines : Bool) (offset id n : ℕ) (e e′ : Event) → lines ≡ true → e ≡ e′ → lineIf lines offset e id n ≡ lineShown offset e′ id n
-line lines offset id n e e′ p q = λ i. lineIf (p i) offset (q i) id n
-
-returns : tie.Need-returns
-returns c =
-    let a = c .before .before .args in
-    silent (lineIf (a .lines) (a .offset) (a .e) (a .id) (a .closed)) _ (rw (not-true (a .lines) (c .if1 .taken)))
+-- the line of an event that is known
+line : (offset id n : ℕ) (e e′ : Event) → e ≡ e′ → lineShown offset e id n ≡ lineShown offset e′ id n
+line offset id n e e′ q = λ i. lineShown offset (q i) id n
 
 enum-told : tie.Need-enum-told
 enum-told c = search needs
@@ -54,17 +48,15 @@ event-line-requires c κs = search needs
 same-length : tie.Need-same-length
 same-length c = search needs
 
-returns-2 : tie.Need-returns-2
-returns-2 c =
+returns : tie.Need-returns
+returns c =
     let w = c .before .before in
     let t = w .before .before in
-    let i = t .before .before in
-    let g = i .before .before in
+    let g = t .before .before .before in
     let a = g .args in
-    let p = not-false (a .lines) (i .if1 .left) in
     let k = event-longest (a .offset) (a .id) 0 (a .closed) (search needs) (search needs) (search needs) in
-    whole (w .event-line .result) _ _ (a .buf .now) _ (line (a .lines) (a .offset) (a .id) (a .closed) _ _ p (t .enum-told2 .given .1))
-    (w .event-line .ensures .0) (w .event-line .ensures .1) (g .pre p) k
+    whole (w .event-line .result) _ _ (a .buf .now) _ (line (a .offset) (a .id) (a .closed) _ _ (t .enum-told2 .given .1))
+    (w .event-line .ensures .0) (w .event-line .ensures .1) (g .pre) k
 
 enum-known-e : tie.Need-enum-known-e
 enum-known-e c = search needs
@@ -75,37 +67,33 @@ event-line-requires-2 c κs = search needs
 same-length-2 : tie.Need-same-length-2
 same-length-2 c = search needs
 
+returns-2 : tie.Need-returns-2
+returns-2 c =
+    let w = c .before .before in
+    let t = w .before .before .before in
+    let g = t .before .before .before in
+    let a = g .args in
+    let v = t .e .given .0 .0 in
+    let k = event-longest (a .offset) (a .id) v (a .closed) (search needs) (search needs) (search needs) in
+    whole (w .event-line2 .result) _ _ (a .buf .now) _ (line (a .offset) (a .id) (a .closed) _ _ (t .e .given .1))
+    (w .event-line2 .ensures .0) (w .event-line2 .ensures .1) (g .pre) k
+
 returns-3 : tie.Need-returns-3
 returns-3 c =
-    let w = c .before .before in
-    let t = w .before .before in
-    let i = t .before .before .before in
-    let g = i .before .before in
-    let a = g .args in
-    let p = not-false (a .lines) (i .if1 .left) in
-    let v = t .before .e .given .0 .0 in
-    let k = event-longest (a .offset) (a .id) v (a .closed) (search needs) (search needs) (search needs) in
-    whole (w .event-line2 .result) _ _ (a .buf .now) _ (line (a .lines) (a .offset) (a .id) (a .closed) _ _ p (t .before .e .given .1))
-    (w .event-line2 .ensures .0) (w .event-line2 .ensures .1) (g .pre p) k
-
-returns-4 : tie.Need-returns-4
-returns-4 c =
-    let i = c .before .before in
-    let a = i .before .before .args in
-    silent _ _ (line (a .lines) (a .offset) (a .id) (a .closed) _ _ (not-false (a .lines) (i .if1 .left)) (c .enum-told .given .1))
+    let a = c .before .before .before .args in
+    silent _ _ (line (a .offset) (a .id) (a .closed) _ _ (c .enum-told .given .1))
 
 pub put-line-spec : {M : Type 1} → statement M
 put-line-spec =
     tie.close
     (tie.spec
-    returns
     enum-told
     enum-told-2
     event-line-requires
     same-length
-    returns-2
+    returns
     enum-known-e
     event-line-requires-2
     same-length-2
-    returns-3
-    returns-4)
+    returns-2
+    returns-3)
