@@ -70,7 +70,5 @@ pub fn encode_46(f: Time, buf: &mut [u8]) -> Written
     ensures { λ r. ⌜ (r ≡ writtenOf 0x46 (bytes46 f) (now (buf .entry)))
         × (now (buf .exit) ≡ filledOf 0x46 (bytes46 f) (now (buf .entry))) ⌝ }
 {
-    let mut body = [0u8; 10];
-    rows::pack(&words_46(f), &WIDTHS_46, &mut body);
-    encoding::deliver(0x46, &body, buf)
+    rows::encode(0x46, &words_46(f), &WIDTHS_46, buf)
 }

@@ -54,7 +54,5 @@ pub fn encode_glonass(f: Glonass, buf: &mut [u8]) -> Written
     ensures { λ r. ⌜ (r ≡ writtenOf 0x49 (bytesGlonass f) (now (buf .entry)))
         × (now (buf .exit) ≡ filledOf 0x49 (bytesGlonass f) (now (buf .entry))) ⌝ }
 {
-    let mut body = [0u8; 93];
-    rows::pack(&words_glonass(f), &WIDTHS_GLONASS, &mut body);
-    encoding::deliver(0x49, &body, buf)
+    rows::encode(0x49, &words_glonass(f), &WIDTHS_GLONASS, buf)
 }

@@ -98,7 +98,5 @@ pub fn encode_gps(f: Gps, buf: &mut [u8]) -> Written
     ensures { λ r. ⌜ (r ≡ writtenOf 0x49 (bytesGps f) (now (buf .entry)))
         × (now (buf .exit) ≡ filledOf 0x49 (bytesGps f) (now (buf .entry))) ⌝ }
 {
-    let mut body = [0u8; 130];
-    rows::pack(&words_gps(f), &WIDTHS_GPS, &mut body);
-    encoding::deliver(0x49, &body, buf)
+    rows::encode(0x49, &words_gps(f), &WIDTHS_GPS, buf)
 }

@@ -79,7 +79,5 @@ pub fn encode_4a(f: Ionosphere, buf: &mut [u8]) -> Written
     ensures { λ r. ⌜ (r ≡ writtenOf 0x4A (bytes4A f) (now (buf .entry)))
         × (now (buf .exit) ≡ filledOf 0x4A (bytes4A f) (now (buf .entry))) ⌝ }
 {
-    let mut body = [0u8; 33];
-    rows::pack(&words_4a(f), &WIDTHS_4A, &mut body);
-    encoding::deliver(0x4A, &body, buf)
+    rows::encode(0x4A, &words_4a(f), &WIDTHS_4A, buf)
 }

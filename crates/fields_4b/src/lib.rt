@@ -88,7 +88,5 @@ pub fn encode_4b(f: Scales, buf: &mut [u8]) -> Written
     ensures { λ r. ⌜ (r ≡ writtenOf 0x4B (bytes4B f) (now (buf .entry)))
         × (now (buf .exit) ≡ filledOf 0x4B (bytes4B f) (now (buf .entry))) ⌝ }
 {
-    let mut body = [0u8; 42];
-    rows::pack(&words_4b(f), &WIDTHS_4B, &mut body);
-    encoding::deliver(0x4B, &body, buf)
+    rows::encode(0x4B, &words_4b(f), &WIDTHS_4B, buf)
 }

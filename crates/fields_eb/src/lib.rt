@@ -79,7 +79,5 @@ pub fn encode_eb(f: GlonassTime, buf: &mut [u8]) -> Written
     ensures { λ r. ⌜ (r ≡ writtenOf 0xEB (bytesEB f) (now (buf .entry)))
         × (now (buf .exit) ≡ filledOf 0xEB (bytesEB f) (now (buf .entry))) ⌝ }
 {
-    let mut body = [0u8; 26];
-    rows::pack(&words_eb(f), &WIDTHS_EB, &mut body);
-    encoding::deliver(0xEB, &body, buf)
+    rows::encode(0xEB, &words_eb(f), &WIDTHS_EB, buf)
 }

@@ -1,13 +1,13 @@
 -- Laws of rows, over any list of widths: how they are put one after the other, and that reading and writing are inverse.
 use mathlib.Core.Path.{_≡_, refl, sym, ap, _∙_}
-use mathlib.Core.Bool.{Bool, true, false, _&&_, and-eq-true-iff, and-false}
+use mathlib.Core.Bool.{Bool, true, false, cond, _&&_, and-eq-true-iff, and-false}
 use mathlib.Core.List.{List, [], _∷_, _++_, append-assoc, append-nil}
 use Prim.Native.Nat.{ℕ, zero, suc, _+_, _-_, _*_, _/_, _^_, _≤_, _<_}
 use native.Mathlib.Nat.{add-zero, zero-add, pow-suc}
 use native.Mathlib.Numerals.{add-one}
 use native.Mathlib.Omega.{arith}
-use borrow.Author.Tests.{eq-eqb, ne-eqb, le-leb, lt-leb, eqb-true, eqb-false}
-use lib.Dec.{eqb, leb}
+use borrow.Author.Tests.{le-leb, lt-leb, leb-true, leb-false}
+use lib.Dec.{leb}
 use lib.IntN.{ℤ, pos, negsuc}
 use lib.ListN.{length, take, drop, getD, length-append, length-drop, take-append-drop}
 use lib.Pow.{pow-add}
@@ -18,7 +18,7 @@ use Rattle.signed.specs.Signed.{signed, unsigned}
 use Rattle.numbers.proofs.NumberLaws.{length-bytes, number-bytes, bytes-number, number-lt, number-in}
 use Rattle.signed.proofs.SignedLaws.{signed-unsigned, unsigned-signed}
 use Rattle.octets.proofs.PlacingLaws.{placed-nil, placed-more, placed-start, length-placed}
-use Rattle.rows.specs.Layout.{Row, natural, integer, width, bits, Held, AllHeld, joined, laid, total, short, exact}
+use Rattle.rows.specs.Layout.{Row, natural, integer, width, bits, Held, AllHeld, joined, laid, total, short, within, packs, packed}
 
 pub length-laid : (ns xs : List ℕ) → length ns ≤ length xs → length (laid ns xs) ≡ total ns
 unfolding laid total
@@ -33,32 +33,75 @@ next s i h = rw add-one (drop-cons s i 0 h)
 
 -- the widths still to go, and the room that is left for them: of a width that is too wide, of one that is over the room, after a
 -- width, and of none
-pub exact-wide : (ns : List ℕ) (room i : ℕ) → i < length ns → 8 < getD ns i 0 → exact (drop i ns) room ≡ false
+pub within-wide : (ns : List ℕ) (room i : ℕ) → i < length ns → 8 < getD ns i 0 → within (drop i ns) room ≡ false
 unfolding short
-exact-wide ns room i h w = rw (next ns i h, lt-leb (getD ns i 0) 8 w)
+within-wide ns room i h w = rw (next ns i h, lt-leb (getD ns i 0) 8 w)
 
-pub exact-over : (ns : List ℕ) (room i : ℕ) → i < length ns → room < getD ns i 0 → exact (drop i ns) room ≡ false
+pub within-over : (ns : List ℕ) (room i : ℕ) → i < length ns → room < getD ns i 0 → within (drop i ns) room ≡ false
 unfolding total
-exact-over ns room i h w =
+within-over ns room i h w =
     let n = getD ns i 0 in
-    rw (next ns i h, ne-eqb room (n + total (drop (i + 1) ns)) (λ (e : room ≡ n + total (drop (i + 1) ns)). omega arith))
-    (and-false (short (n ∷ drop (i + 1) ns)))
+    rw (next ns i h, lt-leb (n + total (drop (i + 1) ns)) room (omega arith)) (and-false (short (n ∷ drop (i + 1) ns)))
 
-less-eqb : (room n t : ℕ) → n ≤ room → eqb room (n + t) ≡ eqb (room - n) t
-less-eqb room n t h = go (eqb (room - n) t) refl
+less-leb : (room n t : ℕ) → n ≤ room → leb (n + t) room ≡ leb t (room - n)
+less-leb room n t h = go (leb t (room - n)) refl
   where
-    go : (b : Bool) → eqb (room - n) t ≡ b → eqb room (n + t) ≡ b
-    go true e = let d : room - n ≡ t = eqb-true (room - n) t e in eq-eqb room (n + t) (omega arith)
-    go false e = ne-eqb room (n + t) (λ (d : room ≡ n + t). eqb-false (room - n) t e (omega arith))
+    go : (b : Bool) → leb t (room - n) ≡ b → leb (n + t) room ≡ b
+    go true e = let d : t ≤ room - n = leb-true t (room - n) e in le-leb (n + t) room (omega arith)
+    go false e = let d : room - n < t = leb-false t (room - n) e in lt-leb (n + t) room (omega arith)
 
-pub exact-next : (ns : List ℕ) (room i : ℕ) → i < length ns → getD ns i 0 ≤ 8 → getD ns i 0 ≤ room
-    → exact (drop i ns) room ≡ exact (drop (i + 1) ns) (room - getD ns i 0)
+pub within-next : (ns : List ℕ) (room i : ℕ) → i < length ns → getD ns i 0 ≤ 8 → getD ns i 0 ≤ room
+    → within (drop i ns) room ≡ within (drop (i + 1) ns) (room - getD ns i 0)
 unfolding short total
-exact-next ns room i h w k = rw (next ns i h, le-leb (getD ns i 0) 8 w, less-eqb room (getD ns i 0) (total (drop (i + 1) ns)) k)
+within-next ns room i h w k = rw (next ns i h, le-leb (getD ns i 0) 8 w, less-leb room (getD ns i 0) (total (drop (i + 1) ns)) k)
 
-pub exact-none : (ns : List ℕ) (room i : ℕ) → i ≡ length ns → exact (drop i ns) room ≡ eqb room 0
+pub total-next : (ns : List ℕ) (i : ℕ) → i < length ns → total (drop i ns) ≡ getD ns i 0 + total (drop (i + 1) ns)
+unfolding total
+total-next ns i h = rw (next ns i h)
+
+pub within-none : (ns : List ℕ) (room i : ℕ) → i ≡ length ns → (within (drop i ns) room ≡ true) × (total (drop i ns) ≡ 0)
 unfolding short total
-exact-none ns room i h = let d : drop i ns ≡ [] = ap (λ (j : ℕ). drop j ns) h ∙ drop-length ns in rw d
+within-none ns room i h =
+    let d : drop i ns ≡ [] = ap (λ (j : ℕ). drop j ns) h ∙ drop-length ns in
+    rw (d, le-leb 0 room (omega arith)) (refl, refl)
+
+-- no bytes are measured: there is no data; some are: the words pack, and the data are theirs
+empty : (l : List ℕ) → length l ≡ 0 → l ≡ []
+empty [] h = refl
+empty (x ∷ xs) h = absurd (omega arith)
+
+module _ (ns xs : List ℕ) where
+  all : packs ns (length xs) ≡ true → (length ns ≤ length xs) × (short ns ≡ true) × (total ns ≤ 130)
+  unfolding packs
+  all e =
+      let p = and-eq-true-iff (leb (length ns) (length xs)) (within ns 130) .0 e in
+      let q = and-eq-true-iff (short ns) (leb (total ns) 130) .0 (p .1) in
+      (leb-true (length ns) (length xs) (p .0), q .0, leb-true (total ns) 130 (q .1))
+
+  pub packed-none : 0 ≡ cond (packs ns (length xs)) (total ns) 0 → packed ns xs ≡ []
+  unfolding packed
+  packed-none h = by (packs ns (length xs)) refl h
+    where
+      by : (b : Bool) → packs ns (length xs) ≡ b → 0 ≡ cond b (total ns) 0 → cond b (laid ns xs) [] ≡ []
+      by true e h = empty (laid ns xs) (length-laid ns xs (all e .0) ∙ sym h)
+      by false e h = refl
+
+  pub packed-some : (n : ℕ) → n ≡ cond (packs ns (length xs)) (total ns) 0 → (n ≡ 0 → ⊥)
+      → (packed ns xs ≡ laid ns xs) × (length ns ≤ length xs) × (short ns ≡ true) × (total ns ≡ n) × (n ≤ 130)
+  unfolding packed
+  packed-some n h z = by (packs ns (length xs)) refl h
+    where
+      by : (b : Bool) → packs ns (length xs) ≡ b → n ≡ cond b (total ns) 0
+          → (cond b (laid ns xs) [] ≡ laid ns xs) × (length ns ≤ length xs) × (short ns ≡ true) × (total ns ≡ n) × (n ≤ 130)
+      by true e h = let p = all e in (refl, p .0, p .1, sym h, omega (arith, p .2))
+      by false e h = absurd (z h)
+
+-- the bytes of the words, read back from in front of others
+pub read-back : (ns xs l rest : List ℕ) (n : ℕ) → length ns ≤ length xs → total ns ≡ n → l ≡ laid ns xs
+    → (n ≤ length (l ++ rest)) × (take n (l ++ rest) ≡ laid ns xs)
+read-back ns xs l rest n h t e =
+    let k : length l ≡ n = ap length e ∙ length-laid ns xs h ∙ t in
+    (omega (arith, length-append l rest), take-at l rest n k ∙ e)
 
 -- what is still to be put after i words: placing it is placing all
 pub record Left (ns xs first out : List ℕ) (at i : ℕ) : Type 0 where

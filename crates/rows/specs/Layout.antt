@@ -2,7 +2,7 @@
 use mathlib.Core.Bool.{Bool, true, cond, _&&_}
 use mathlib.Core.List.{List, [], _∷_, _++_}
 use Prim.Native.Nat.{ℕ, _+_, _*_, _/_, _^_, _<_}
-use lib.Dec.{eqb, leb}
+use lib.Dec.{leb}
 use lib.IntN.{ℤ}
 use lib.ListN.{length}
 use lib.Signed.{mag}
@@ -76,14 +76,14 @@ unfoldable pub short : List ℕ → Bool
 short [] = true
 short (n ∷ ns) = leb n 8 && short ns
 
--- such widths, which add up to the room
-abbrev pub exact : List ℕ → ℕ → Bool
-exact ns room = short ns && eqb room (total ns)
+-- such widths, which add up to no more than the room
+abbrev pub within : List ℕ → ℕ → Bool
+within ns room = short ns && leb (total ns) room
 
--- there is a word for each width, and the widths are those of the whole buffer
-unfoldable pub packs : List ℕ → List ℕ → List ℕ → Bool
-packs ns xs out = leb (length ns) (length xs) && exact ns (length out)
+-- there is a word for each width, and together they are no longer than the longest data of such a kind, 49h of GPS
+unfoldable pub packs : List ℕ → ℕ → Bool
+packs ns count = leb (length ns) count && within ns 130
 
--- the buffer afterwards: the words where they pack, else as it was
-unfoldable pub packed : List ℕ → List ℕ → List ℕ → List ℕ
-packed ns xs out = cond (packs ns xs out) (laid ns xs) out
+-- the data: the words where they pack, else none
+unfoldable pub packed : List ℕ → List ℕ → List ℕ
+packed ns xs = cond (packs ns (length xs)) (laid ns xs) []

@@ -1,4 +1,5 @@
-// Rows of the sources' tables, packed one after the other.
+// Rows of the sources' tables, one after the other as the data of a message.
+use encoding::Written;
 ghost use mathlib.Core.Path.{_≡_};
 ghost use mathlib.Core.Bool.{true, cond, _&&_};
 ghost use Prim.Native.Nat.{_≤_};
@@ -6,7 +7,11 @@ ghost use lib.Dec.{leb};
 ghost use lib.ListN.{length};
 ghost use Rattle.octets.specs.Placing.{fits, placed};
 ghost use Rattle.numbers.specs.Number.{bytesOf};
-ghost use Rattle.rows.specs.Layout.{laid, total, short, exact, packs, packed};
+ghost use Rattle.encoding.specs.Written.{writtenOf, filledOf};
+ghost use Rattle.rows.specs.Layout.{laid, total, short, packs, packed};
+
+// The longest data of such a kind: 49h of GPS.
+const LONGEST: usize = 130;
 
 // Puts the n bytes of x, eight at most, into the buffer from `at` on, and says whether they are within it. Where not, nothing is
 // written.
@@ -30,24 +35,27 @@ fn put_number(buf: &mut [u8], at: usize, n: usize, x: u64) -> bool
     true
 }
 
-// Whether no width is above eight and they add up to the room; by what is left of it, since the sum could wrap.
-fn exactly(widths: &[usize], room: usize) -> bool
-    ensures { λ r. ⌜ r ≡ exact (now (widths .entry)) room ⌝ }
+// How many bytes the widths say for `count` words, 0 where they do not pack; by what is left of the room, since the sum could wrap.
+fn measure(widths: &[usize], count: usize) -> usize
+    ensures { λ r. ⌜ r ≡ cond (packs (now (widths .entry)) count) (total (now (widths .entry))) 0 ⌝ }
 {
-    let mut left = room;
+    if count < widths.len() {
+        return 0;
+    }
+    let mut left = LONGEST;
     let mut i: usize = 0;
     while i < widths.len() {
         let n = widths[i];
         if 8 < n {
-            return false;
+            return 0;
         }
         if left < n {
-            return false;
+            return 0;
         }
         left -= n;
         i += 1;
     }
-    left == 0
+    LONGEST - left
 }
 
 // Fills `out` with the words, each in as many bytes as its width says.
@@ -66,18 +74,17 @@ fn fill(words: &[u64], widths: &[usize], out: &mut [u8])
     }
 }
 
-// Fills `out` with the words, each in as many bytes as its width says, and says so. Where words are missing, a width is above eight
-// or they do not add up to the length of `out`, nothing is written.
-pub fn pack(words: &[u64], widths: &[usize], out: &mut [u8]) -> bool
-    ensures { λ r. ⌜ (r ≡ packs (now (widths .entry)) (now (words .entry)) (now (out .entry)))
-        × (now (out .exit) ≡ packed (now (widths .entry)) (now (words .entry)) (now (out .entry))) ⌝ }
+// Lays words out as the data of a message, each in as many bytes as its width says, and delivers it. Where words are missing, a width
+// is above eight or the data would be longer than that of any such kind, the message has no data.
+pub fn encode(id: u8, words: &[u64], widths: &[usize], buf: &mut [u8]) -> Written
+    ensures { λ r. ⌜ (r ≡ writtenOf id (packed (now (widths .entry)) (now (words .entry))) (now (buf .entry)))
+        × (now (buf .exit) ≡ filledOf id (packed (now (widths .entry)) (now (words .entry))) (now (buf .entry))) ⌝ }
 {
-    if words.len() < widths.len() {
-        return false;
+    let n = measure(widths, words.len());
+    let mut body = [0u8; LONGEST];
+    if n == 0 {
+        return encoding::deliver(id, &body[..0], buf);
     }
-    if !exactly(widths, out.len()) {
-        return false;
-    }
-    fill(words, widths, out);
-    true
+    fill(words, widths, &mut body[..n]);
+    encoding::deliver(id, &body[..n], buf)
 }

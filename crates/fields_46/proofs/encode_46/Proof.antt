@@ -1,22 +1,15 @@
--- `encode_46` meets its contract: what `pack` leaves are the bytes of the fields.
-use mathlib.Core.Path.{_≡_, sym}
+-- `encode_46` meets its contract: the words and their widths are those of the rows.
 use borrow.Author.Needs.{needs}
 use Rattle.rows.specs.Layout.{joined, laid, total, short, packs, packed}
 use Rattle.fields_46.specs.Time.{bytes46}
 use Rattle.fields_46.proofs.encode_46.Statement.{statement}
 use Rattle.fields_46.proofs.encode_46.Tie as tie
 
-slice-aggregate-pack : tie.Need-slice-aggregate-pack
-slice-aggregate-pack c = search needs
+slice-aggregate-encode : tie.Need-slice-aggregate-encode
+slice-aggregate-encode c = search needs
 
-slice-aggregate-pack-2 : tie.Need-slice-aggregate-pack-2
-slice-aggregate-pack-2 c = search needs
-
-slice-aggregate-pack-3 : tie.Need-slice-aggregate-pack-3
-slice-aggregate-pack-3 c = search needs
-
-slice-aggregate-deliver : tie.Need-slice-aggregate-deliver
-slice-aggregate-deliver c = search needs
+slice-aggregate-encode-2 : tie.Need-slice-aggregate-encode-2
+slice-aggregate-encode-2 c = search needs
 
 same-length : tie.Need-same-length
 same-length c = search needs
@@ -25,21 +18,7 @@ returns : tie.Need-returns
 unfolding bytes46 joined laid total short packs packed
 returns c =
     let d = c .before .before in
-    let p = d .before .before .before .before in
-    let w = p .before .before .before .before in
-    let e : p .pack .last .1 .1 .0 ≡ bytes46 (w .before .before .args .f) = rw (w .words-46 .ensures) at (p .pack .ensures .1) in
-    rw (sym e) (d .deliver .ensures)
+    rw (d .before .before .before .before .words-46 .ensures) at (d .encode .ensures)
 
 pub encode-46-spec : {M : Type 1} → statement M
-encode-46-spec =
-    tie.close
-    (tie.spec
-    (λ _ _. tt)
-    slice-aggregate-pack
-    slice-aggregate-pack-2
-    slice-aggregate-pack-3
-    (λ _ _. tt)
-    slice-aggregate-deliver
-    (λ _ _. tt)
-    same-length
-    returns)
+encode-46-spec = tie.close (tie.spec (λ _ _. tt) slice-aggregate-encode slice-aggregate-encode-2 (λ _ _. tt) same-length returns)
