@@ -206,21 +206,19 @@ pub fn feed_in_place(h: Head, l: Latest, d: &mut [u8; 1024], s: &[u8]) -> InPlac
 }
 
 // The slice call: bytes up to the first event, the end of the slice or the limit.
-pub fn feed(r: Reader, s: &[u8]) -> Fed
-    ensures { λ x. ⌜ FeedPost r (now (s .entry)) x ⌝ }
+pub fn feed(old: Reader, s: &[u8]) -> Fed
+    ensures { λ x. ⌜ FeedPost old (now (s .entry)) x ⌝ }
 {
-    let h = r.head;
-    let l = r.latest;
-    let mut bytes = r.bytes;
-    let x = feed_in_place(h, l, &mut bytes, s);
+    let h = old.head;
+    let l = old.latest;
+    let mut r = old;
+    let x = feed_in_place(h, l, &mut r.bytes, s);
     let head = x.head;
     let latest = x.latest;
+    r.head = head;
+    r.latest = latest;
     let event = x.event;
-    let reader = Reader {
-        head: head,
-        latest: latest,
-        bytes: bytes,
-    };
+    let bytes = r.bytes;
     let answer = Answer {
         event: event,
         id: x.id,
@@ -229,7 +227,7 @@ pub fn feed(r: Reader, s: &[u8]) -> Fed
         closed: x.closed,
     };
     Fed {
-        reader: reader,
+        reader: r,
         answer: answer,
         taken: x.taken,
     }

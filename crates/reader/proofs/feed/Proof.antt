@@ -6,7 +6,7 @@ use Rattle.reader.proofs.Giving.{feeds}
 use Rattle.reader.proofs.feed.Statement.{statement}
 use Rattle.reader.proofs.feed.Tie as tie
 
-whole : (c : tie.Start) → length (c .args .r .bytes) ≡ 1024
+whole : (c : tie.Start) → length (c .args .old .bytes) ≡ 1024
 whole c = search needs
 
 feed-in-place-requires : tie.Need-feed-in-place-requires
@@ -14,9 +14,9 @@ feed-in-place-requires c κs = search needs
 
 returns : tie.Need-returns
 returns c =
-    let f = c .before .before in
-    let b = f .before .before .before .before .before .before in
-    feeds (b .args .r) (f .feed-in-place .last .1 .1 .0) (b .args .s .now) (f .feed-in-place .result) (whole b) (f .feed-in-place .ensures)
+    let f = c .before .before .before in
+    let b = f .before .before .before .before .before in
+    feeds (b .args .old) (f .feed-in-place .last .1 .1 .0) (b .args .s .now) (f .feed-in-place .result) (whole b) (f .feed-in-place .ensures)
 
 pub feed-spec : {M : Type 1} → statement M
 feed-spec = tie.close (tie.spec feed-in-place-requires returns)
