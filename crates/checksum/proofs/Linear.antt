@@ -73,16 +73,6 @@ up n =
       fits = λ x h. omega arith;
     }
 
-down : (n : ℕ) → Linear (λ x. x / 2 ^ n)
-down n = record { adds = λ a b ha hb. xor-shr a b n; fits = λ x h. lt-of-le-of-lt (div-le-self x (2 ^ n)) h }
-
-sum : (f g : ℕ → ℕ) → Linear f → Linear g → Linear (λ x. bitXor (f x) (g x))
-sum f g p q =
-    record {
-      adds = λ a b ha hb. ap₂ bitXor (p .adds a b ha hb) (q .adds a b ha hb) ∙ xor-swap (f a) (f b) (g a) (g b);
-      fits = λ x h. xor-lt 16 (f x) (g x) (p .fits x h) (q .fits x h);
-    }
-
 after : (f g : ℕ → ℕ) → Linear f → Linear g → Linear (λ x. g (f x))
 after f g p q =
     record {
@@ -193,56 +183,94 @@ after-pair r b c hr hb hc =
 -- Sixteen shifts, and thirty-two. What enters is divided: each place of the quotient is a sum of places of what enters, and the
 -- divisor times the quotient's low 16 places is what is left.
 
-abbrev pub near : ℕ → ℕ
-near y = bitXor (bitXor y (y / 16)) (bitXor (y / 256) (bitXor (y / 2048) (y / 4096)))
+abbrev Adds : (ℕ → ℕ) → Type 0
+Adds f = (a b : ℕ) → f (bitXor a b) ≡ bitXor (f a) (f b)
 
-abbrev pub far : ℕ → ℕ
-far x =
-    bitXor
-    (bitXor (bitXor (x * 4096 % 65536) (x * 256 % 65536)) (bitXor (x * 32 % 65536) (x * 16 % 65536)))
-    (bitXor (bitXor (x / 8) (x / 16)) (bitXor (bitXor (x / 64) (x / 1024)) (bitXor (x / 2048) (x / 4096))))
+same : Adds (λ x. x)
+same a b = refl
+
+down : (n : ℕ) → Adds (λ x. x / 2 ^ n)
+down n a b = xor-shr a b n
+
+wide : (n : ℕ) → Adds (λ x. x * 2 ^ n % 4294967296)
+wide n a b = ap (λ (x : ℕ). x % 4294967296) (xor-up n a b) ∙ xor-mod (a * 2 ^ n) (b * 2 ^ n) 32
+
+sum : (f g : ℕ → ℕ) → Adds f → Adds g → Adds (λ x. bitXor (f x) (g x))
+sum f g p q a b = ap₂ bitXor (p a b) (q a b) ∙ xor-swap (f a) (f b) (g a) (g b)
+
+-- the quotient by three sums, the divisor times it, and what is left
+abbrev pub first : ℕ → ℕ
+first x = bitXor (bitXor x (x / 16)) (bitXor (x / 2048) (x / 65536))
+
+abbrev pub second : ℕ → ℕ
+second x = bitXor x (bitXor (x / 256) (x / 4194304))
+
+abbrev pub third : ℕ → ℕ
+third x = bitXor x (x / 65536)
+
+abbrev pub times : ℕ → ℕ
+times q = bitXor q (bitXor (q * 32 % 4294967296) (q * 4096 % 4294967296))
 
 abbrev pub left : ℕ → ℕ
-left q = bitXor q (bitXor (q * 32 % 65536) (q * 4096 % 65536))
+left q = times q % 65536
 
-near-linear : Linear near
-near-linear =
-    sum (λ y. bitXor y (y / 16)) (λ y. bitXor (y / 256) (bitXor (y / 2048) (y / 4096)))
-    (sum (λ y. y) (λ y. y / 16) itself (down 4))
-    (sum (λ y. y / 256) (λ y. bitXor (y / 2048) (y / 4096)) (down 8) (sum (λ y. y / 2048) (λ y. y / 4096) (down 11) (down 12)))
+abbrev pub divided : ℕ → ℕ
+divided x = left (third (second (first x)))
 
-far-linear : Linear far
-far-linear =
-    sum (λ x. bitXor (bitXor (x * 4096 % 65536) (x * 256 % 65536)) (bitXor (x * 32 % 65536) (x * 16 % 65536)))
-    (λ x. bitXor (bitXor (x / 8) (x / 16)) (bitXor (bitXor (x / 64) (x / 1024)) (bitXor (x / 2048) (x / 4096))))
-    (sum (λ x. bitXor (x * 4096 % 65536) (x * 256 % 65536)) (λ x. bitXor (x * 32 % 65536) (x * 16 % 65536))
-    (sum (λ x. x * 4096 % 65536) (λ x. x * 256 % 65536) (up 12) (up 8))
-    (sum (λ x. x * 32 % 65536) (λ x. x * 16 % 65536) (up 5) (up 4)))
-    (sum (λ x. bitXor (x / 8) (x / 16)) (λ x. bitXor (bitXor (x / 64) (x / 1024)) (bitXor (x / 2048) (x / 4096)))
-    (sum (λ x. x / 8) (λ x. x / 16) (down 3) (down 4))
-    (sum (λ x. bitXor (x / 64) (x / 1024)) (λ x. bitXor (x / 2048) (x / 4096))
-    (sum (λ x. x / 64) (λ x. x / 1024) (down 6) (down 10)) (sum (λ x. x / 2048) (λ x. x / 4096) (down 11) (down 12))))
+first-adds : Adds first
+first-adds =
+    sum (λ x. bitXor x (x / 16)) (λ x. bitXor (x / 2048) (x / 65536)) (sum (λ x. x) (λ x. x / 16) same (down 4))
+    (sum (λ x. x / 2048) (λ x. x / 65536) (down 11) (down 16))
 
-left-linear : Linear left
-left-linear =
-    sum (λ q. q) (λ q. bitXor (q * 32 % 65536) (q * 4096 % 65536)) itself
-    (sum (λ q. q * 32 % 65536) (λ q. q * 4096 % 65536) (up 5) (up 12))
+second-adds : Adds second
+second-adds = sum (λ x. x) (λ x. bitXor (x / 256) (x / 4194304)) same (sum (λ x. x / 256) (λ x. x / 4194304) (down 8) (down 22))
 
-sixteen : (y : ℕ) → y < 65536 → shiftedBy 16 y ≡ left (near y)
+third-adds : Adds third
+third-adds = sum (λ x. x) (λ x. x / 65536) same (down 16)
+
+left-adds : Adds left
+left-adds a b =
+    let p : times (bitXor a b) ≡ bitXor (times a) (times b) =
+    sum (λ q. q) (λ q. bitXor (q * 32 % 4294967296) (q * 4096 % 4294967296)) same
+    (sum (λ q. q * 32 % 4294967296) (λ q. q * 4096 % 4294967296) (wide 5) (wide 12)) a b in
+    ap (λ (x : ℕ). x % 65536) p ∙ xor-mod (times a) (times b) 16
+
+divided-adds : Adds divided
+divided-adds a b =
+    ap (λ (x : ℕ). left (third (second x))) (first-adds a b)
+    ∙ ap (λ (x : ℕ). left (third x)) (second-adds (first a) (first b))
+    ∙ ap left (third-adds (second (first a)) (second (first b)))
+    ∙ left-adds (third (second (first a))) (third (second (first b)))
+
+divided-lt : (x : ℕ) → divided x < 65536
+divided-lt x = mod-lt (times (third (second (first x)))) (pow-pos 16)
+
+low-linear : Linear divided
+low-linear = record { adds = λ a b ha hb. divided-adds a b; fits = λ x h. divided-lt x }
+
+high-linear : Linear (λ x. divided (x * 65536))
+high-linear =
+    record {
+      adds = λ a b ha hb. ap divided (xor-up 16 a b) ∙ divided-adds (a * 65536) (b * 65536);
+      fits = λ x h. divided-lt (x * 65536);
+    }
+
+sixteen : (y : ℕ) → y < 65536 → shiftedBy 16 y ≡ divided y
 unfolding shifted shiftedBy
 sixteen =
-    agree (shiftedBy 16) (λ y. left (near y)) (shifts-linear 16) (after near left near-linear left-linear)
+    agree (shiftedBy 16) divided (shifts-linear 16) low-linear
     (((((((((((((((((tt, refl), refl), refl), refl), refl), refl), refl), refl), refl), refl), refl), refl), refl), refl), refl), refl))
 
-thirty-two : (x : ℕ) → x < 65536 → shiftedBy 32 x ≡ left (far x)
+thirty-two : (x : ℕ) → x < 65536 → shiftedBy 32 x ≡ divided (x * 65536)
 unfolding shifted shiftedBy
 thirty-two =
-    agree (shiftedBy 32) (λ x. left (far x)) (shifts-linear 32) (after far left far-linear left-linear)
+    agree (shiftedBy 32) (λ x. divided (x * 65536)) (shifts-linear 32) high-linear
     (((((((((((((((((tt, refl), refl), refl), refl), refl), refl), refl), refl), refl), refl), refl), refl), refl), refl), refl), refl))
 
 -- four bytes at once
-pub four-at-once : (z y : ℕ) → z < 65536 → y < 65536 → left (bitXor (far z) (near y)) ≡ shiftedBy 16 (bitXor (shiftedBy 16 z) y)
+pub four-at-once : (z y : ℕ) → z < 65536 → y < 65536 → divided (z * 65536 + y) ≡ shiftedBy 16 (bitXor (shiftedBy 16 z) y)
 four-at-once z y hz hy =
-    left-linear .adds (far z) (near y) (far-linear .fits z hz) (near-linear .fits y hy)
+    ap divided (sym (xor-shifted z 16 y hy))
+    ∙ divided-adds (z * 65536) y
     ∙ ap₂ bitXor (sym (thirty-two z hz) ∙ shifts-add 16 16 z) (sym (sixteen y hy))
     ∙ sym (shifts-linear 16 .adds (shiftedBy 16 z) y (shifted-by-lt 16 z hz) hy)

@@ -52,18 +52,16 @@ fn pair(b: u8, c: u8) -> u16
     b as u16 * 256 + c as u16
 }
 
-// The register after four more bytes, two at a time. Of the division only the quotient's low places are worked out: each is a
-// sum of places of what enters, so all are had at once; the divisor times them is what is left in the register.
+// The register after four more bytes, two at a time. What enters is divided: each place of the quotient is a sum of places of it, and
+// all are had at once, by three sums of shifts; the divisor times the quotient's low places is what is left in the register.
 fn after_four(reg: u16, first: u16, second: u16) -> u16
     ensures { λ r. ⌜ (r ≡ shiftedBy 16 (bitXor (shiftedBy 16 (bitXor reg first)) second)) × (reg < 65536) ⌝ }
 {
-    let x = reg ^ first;
-    let y = second;
-    let far = (((x << 12) ^ (x << 8)) ^ ((x << 5) ^ (x << 4)))
-        ^ (((x >> 3) ^ (x >> 4)) ^ (((x >> 6) ^ (x >> 10)) ^ ((x >> 11) ^ (x >> 12))));
-    let near = (y ^ (y >> 4)) ^ ((y >> 8) ^ ((y >> 11) ^ (y >> 12)));
-    let q = far ^ near;
-    q ^ ((q << 5) ^ (q << 12))
+    let x = (reg ^ first) as u32 * 65536 + second as u32;
+    let a = (x ^ (x >> 4)) ^ ((x >> 11) ^ (x >> 16));
+    let b = a ^ ((a >> 8) ^ (a >> 22));
+    let q = b ^ (b >> 16);
+    ((q ^ ((q << 5) ^ (q << 12))) & 0xFFFF) as u16
 }
 
 // The register after one byte of data as the line has it: a 10h counts twice.
