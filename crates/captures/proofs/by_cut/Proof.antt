@@ -27,7 +27,7 @@ part-feed-end : tie.Need-part-feed-end Inv-loop μ-loop
 part-feed-end c = search needs
 
 feed-requires : tie.Need-feed-requires Inv-loop μ-loop
-feed-requires c κs = search needs
+feed-requires c κs = tt
 
 returns : tie.Need-returns Inv-loop μ-loop
 returns c = search needs
@@ -45,7 +45,7 @@ sub-event : tie.Need-sub-event Inv-loop μ-loop
 sub-event c = search needs
 
 event-requires : tie.Need-event-requires Inv-loop μ-loop
-event-requires c κs = search needs
+event-requires c κs = tt
 
 loop-less : tie.Need-loop-less Inv-loop μ-loop
 loop-less c = search needs
@@ -54,7 +54,7 @@ loop-again : tie.Need-loop-again Inv-loop μ-loop
 loop-again c = search needs
 
 record-requires : tie.Need-record-requires Inv-loop μ-loop
-record-requires c κs = search needs
+record-requires c κs = tt
 
 returns-3 : tie.Need-returns-3 Inv-loop μ-loop
 returns-3 c = search needs

@@ -15,7 +15,7 @@ loop-holds : tie.Need-loop-holds Inv-loop μ-loop
 loop-holds c = search needs
 
 compare-requires : tie.Need-compare-requires Inv-loop μ-loop
-compare-requires c κs = search needs
+compare-requires c κs = tt
 
 add-cut : tie.Need-add-cut Inv-loop μ-loop
 add-cut c = search needs

@@ -3,7 +3,6 @@ use mathlib.Core.Path.{_≡_}
 use Prim.Native.Nat.{suc, _+_, _-_, _*_, _≤_}
 use native.Mathlib.Nat.{mod-eq-of-lt}
 use native.Mathlib.Omega.{arith}
-use borrow.Author.Needs.{needs}
 use Rattle.checksum.specs.Checksum.{shiftedBy, afterByte}
 use Rattle.checksum.proofs.after_byte.Statement.{statement}
 use Rattle.checksum.proofs.after_byte.Tie as tie
@@ -19,7 +18,7 @@ unfolding afterByte
 loop-holds c = (omega arith, rw (mod-eq-of-lt {n = c .args .b * 256} {m = 65536} (omega arith)))
 
 shift-requires : tie.Need-shift-requires Inv-loop μ-loop
-shift-requires c κs = search needs
+shift-requires c κs = tt
 
 add-i : tie.Need-add-i Inv-loop μ-loop
 add-i c = omega arith

@@ -1,15 +1,14 @@
 -- `checksum::after_stuffed` meets its contract: a byte of data that is 10h, and one that is not.
-use borrow.Author.Needs.{needs}
 use Rattle.stuffing.proofs.StuffingLaws.{stuffed-dle, stuffed-other}
 use Rattle.checksum.specs.Checksum.{afterBytes}
 use Rattle.checksum.proofs.after_stuffed.Statement.{statement}
 use Rattle.checksum.proofs.after_stuffed.Tie as tie
 
 after-byte-requires : tie.Need-after-byte-requires
-after-byte-requires c κs = search needs
+after-byte-requires c κs = tt
 
 after-byte-requires-2 : tie.Need-after-byte-requires-2
-after-byte-requires-2 c κs = search needs
+after-byte-requires-2 c κs = tt
 
 returns : tie.Need-returns
 unfolding afterBytes

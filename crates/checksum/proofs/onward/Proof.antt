@@ -16,7 +16,7 @@ plain-here : (p : tie.After-four-plain) → p .four-plain .result ≡ true → P
 plain-here p e = plain-of _ _ (sym (p .four-plain .ensures) ∙ e)
 
 four-plain-requires : tie.Need-four-plain-requires
-four-plain-requires c κs = search needs
+four-plain-requires c κs = tt
 
 shared-slice-read-pair : tie.Need-shared-slice-read-pair
 shared-slice-read-pair c = search needs
@@ -29,7 +29,7 @@ shared-slice-read-pair-2 c =
     omega (arith, plain-here (c .before .before .before) (c .before .before .if1 .taken) .there)
 
 pair-requires : tie.Need-pair-requires
-pair-requires c κs = search needs
+pair-requires c κs = tt
 
 add-pair-2 : tie.Need-add-pair-2
 add-pair-2 c = search needs
@@ -46,10 +46,10 @@ shared-slice-read-pair-4 c =
     omega (arith, plain-here (c .before .before .before .before .before .before) (c .before .before .before .before .before .if1 .taken) .there)
 
 pair-requires-2 : tie.Need-pair-requires-2
-pair-requires-2 c κs = search needs
+pair-requires-2 c κs = tt
 
 after-four-requires : tie.Need-after-four-requires
-after-four-requires c κs = search needs
+after-four-requires c κs = tt
 
 add-t10 : tie.Need-add-t10
 add-t10 c = search needs
@@ -68,7 +68,7 @@ shared-slice-read-after-stuffed : tie.Need-shared-slice-read-after-stuffed
 shared-slice-read-after-stuffed c = search needs
 
 after-stuffed-requires : tie.Need-after-stuffed-requires
-after-stuffed-requires c κs = search needs
+after-stuffed-requires c κs = tt
 
 add-t22 : tie.Need-add-t22
 add-t22 c = search needs

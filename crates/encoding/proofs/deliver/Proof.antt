@@ -8,7 +8,7 @@ use Rattle.encoding.proofs.deliver.Statement.{statement}
 use Rattle.encoding.proofs.deliver.Tie as tie
 
 content-requires : tie.Need-content-requires
-content-requires c κs = search needs
+content-requires c κs = tt
 
 returns : tie.Need-returns
 returns c =

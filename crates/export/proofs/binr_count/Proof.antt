@@ -1,10 +1,9 @@
 -- `export::binr_count` meets its contract.
-use borrow.Author.Needs.{needs}
 use Rattle.export.proofs.binr_count.Statement.{statement}
 use Rattle.export.proofs.binr_count.Tie as tie
 
 count-events-requires : tie.Need-count-events-requires
-count-events-requires c κs = search needs
+count-events-requires c κs = tt
 
 returns : tie.Need-returns
 returns c = c .count-events .ensures

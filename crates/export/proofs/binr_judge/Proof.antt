@@ -1,10 +1,9 @@
 -- `export::binr_judge` meets its contract.
-use borrow.Author.Needs.{needs}
 use Rattle.export.proofs.binr_judge.Statement.{statement}
 use Rattle.export.proofs.binr_judge.Tie as tie
 
 content-requires : tie.Need-content-requires
-content-requires c κs = search needs
+content-requires c κs = tt
 
 returns : tie.Need-returns
 returns c = c .content .ensures

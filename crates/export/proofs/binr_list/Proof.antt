@@ -6,10 +6,10 @@ use Rattle.export.proofs.binr_list.Statement.{statement}
 use Rattle.export.proofs.binr_list.Tie as tie
 
 list-requires : tie.Need-list-requires
-list-requires c κs = search needs
+list-requires c κs = tt
 
 answer-requires : tie.Need-answer-requires
-answer-requires c κs = search needs
+answer-requires c κs = tt
 
 same-length : tie.Need-same-length
 same-length c = search needs

@@ -6,10 +6,10 @@ use Rattle.export.proofs.binr_write.Statement.{statement}
 use Rattle.export.proofs.binr_write.Tie as tie
 
 write-requires : tie.Need-write-requires
-write-requires c κs = search needs
+write-requires c κs = tt
 
 answer-requires : tie.Need-answer-requires
-answer-requires c κs = search needs
+answer-requires c κs = tt
 
 same-length : tie.Need-same-length
 same-length c = search needs

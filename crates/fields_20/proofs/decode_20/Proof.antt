@@ -1,13 +1,12 @@
 -- `decode_20` meets its contract: by the refusal, then field by field.
 use mathlib.Core.Path.{sym, _∙_}
-use borrow.Author.Needs.{needs}
 use borrow.Author.Tests.{eq-eqb, ne-eqb}
 use Rattle.fields_20.specs.Fields.{read20}
 use Rattle.fields_20.proofs.decode_20.Statement.{statement}
 use Rattle.fields_20.proofs.decode_20.Tie as tie
 
 content-requires : tie.Need-content-requires
-content-requires c κs = search needs
+content-requires c κs = tt
 
 returns : tie.Need-returns
 unfolding read20
@@ -16,10 +15,10 @@ returns c =
     rw (ne-eqb _ _ (λ z. c .if1 .taken (e ∙ z)), e)
 
 byte-at-requires : tie.Need-byte-at-requires
-byte-at-requires c κs = search needs
+byte-at-requires c κs = tt
 
 byte-at-requires-2 : tie.Need-byte-at-requires-2
-byte-at-requires-2 c κs = search needs
+byte-at-requires-2 c κs = tt
 
 returns-2 : tie.Need-returns-2
 unfolding read20

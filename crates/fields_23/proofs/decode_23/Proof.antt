@@ -8,7 +8,7 @@ use Rattle.fields_23.proofs.decode_23.Statement.{statement}
 use Rattle.fields_23.proofs.decode_23.Tie as tie
 
 content-requires : tie.Need-content-requires
-content-requires c κs = search needs
+content-requires c κs = tt
 
 returns : tie.Need-returns
 unfolding read23
@@ -17,16 +17,16 @@ returns c =
     rw (ne-eqb _ _ (λ z. c .if1 .taken (e ∙ z)), e)
 
 byte-at-requires : tie.Need-byte-at-requires
-byte-at-requires c κs = search needs
+byte-at-requires c κs = tt
 
 int8-of-requires : tie.Need-int8-of-requires
-int8-of-requires c κs = search needs
+int8-of-requires c κs = tt
 
 byte-at-requires-2 : tie.Need-byte-at-requires-2
-byte-at-requires-2 c κs = search needs
+byte-at-requires-2 c κs = tt
 
 int8-of-requires-2 : tie.Need-int8-of-requires-2
-int8-of-requires-2 c κs = search needs
+int8-of-requires-2 c κs = tt
 
 returns-2 : tie.Need-returns-2
 unfolding read23

@@ -21,10 +21,10 @@ unfolding write23 fill23
 returns c = rw (lt-leb _ _ (c .if1 .taken)) (refl, refl)
 
 int8-byte-requires : tie.Need-int8-byte-requires
-int8-byte-requires c κs = search needs
+int8-byte-requires c κs = tt
 
 int8-byte-requires-2 : tie.Need-int8-byte-requires-2
-int8-byte-requires-2 c κs = search needs
+int8-byte-requires-2 c κs = tt
 
 array-share-prefix-all : tie.Need-array-share-prefix-all
 array-share-prefix-all c = search needs
@@ -33,7 +33,7 @@ slice-aggregate-deliver : tie.Need-slice-aggregate-deliver
 slice-aggregate-deliver c = sym (length-take-le _ _ (search needs))
 
 deliver-requires : tie.Need-deliver-requires
-deliver-requires c κs = search needs
+deliver-requires c κs = tt
 
 same-length : tie.Need-same-length
 same-length c = search needs

@@ -1,13 +1,12 @@
 -- `decode_43` meets its contract: by the refusal, then as `result_of` has it.
 use mathlib.Core.Path.{sym, _∙_}
-use borrow.Author.Needs.{needs}
 use borrow.Author.Tests.{eq-eqb, ne-eqb}
 use Rattle.fields_43.specs.Fields.{read43}
 use Rattle.fields_43.proofs.decode_43.Statement.{statement}
 use Rattle.fields_43.proofs.decode_43.Tie as tie
 
 content-requires : tie.Need-content-requires
-content-requires c κs = search needs
+content-requires c κs = tt
 
 returns : tie.Need-returns
 unfolding read43
@@ -16,10 +15,10 @@ returns c =
     rw (ne-eqb _ _ (λ z. c .if1 .taken (e ∙ z)), e)
 
 byte-at-requires : tie.Need-byte-at-requires
-byte-at-requires c κs = search needs
+byte-at-requires c κs = tt
 
 result-of-requires : tie.Need-result-of-requires
-result-of-requires c κs = search needs
+result-of-requires c κs = tt
 
 returns-2 : tie.Need-returns-2
 unfolding read43

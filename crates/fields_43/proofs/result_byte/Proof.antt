@@ -3,7 +3,6 @@ use mathlib.Core.Bool.{Bool, true, false}
 use mathlib.Core.Path.{_≡_, _∙_}
 use Prim.Native.Nat.{ℕ, _+_, _*_, _%_, _≤_}
 use native.Mathlib.Omega.{arith}
-use borrow.Author.Needs.{needs}
 use lib.Bits.{bitOr, or-shifted}
 use Rattle.fields_43.specs.Fields.{bitOf}
 use Rattle.fields_43.proofs.result_byte.Statement.{statement}
@@ -25,10 +24,10 @@ packed a g p l ha hg hp hl =
     rw (e₁, e₂, e₃, f₁, f₂, f₃) (omega arith)
 
 bit-requires : tie.Need-bit-requires
-bit-requires c κs = search needs
+bit-requires c κs = tt
 
 bit-requires-2 : tie.Need-bit-requires-2
-bit-requires-2 c κs = search needs
+bit-requires-2 c κs = tt
 
 returns : tie.Need-returns
 returns c =

@@ -12,7 +12,7 @@ use Rattle.fields_47.proofs.decode_47.Statement.{statement}
 use Rattle.fields_47.proofs.decode_47.Tie as tie
 
 content-requires : tie.Need-content-requires
-content-requires c κs = search needs
+content-requires c κs = tt
 
 first-uses-requires : tie.Need-first-uses-requires
 first-uses-requires c κs = search needs

@@ -8,13 +8,13 @@ use Rattle.fields_47.proofs.encode_47.Statement.{statement}
 use Rattle.fields_47.proofs.encode_47.Tie as tie
 
 uses-data-requires : tie.Need-uses-data-requires
-uses-data-requires c κs = search needs
+uses-data-requires c κs = tt
 
 slice-aggregate-deliver : tie.Need-slice-aggregate-deliver
 slice-aggregate-deliver c = search needs
 
 deliver-requires : tie.Need-deliver-requires
-deliver-requires c κs = search needs
+deliver-requires c κs = tt
 
 same-length : tie.Need-same-length
 same-length c = search needs

@@ -7,19 +7,19 @@ mul-at : tie.Need-mul-at
 mul-at c = search needs
 
 byte-at-requires : tie.Need-byte-at-requires
-byte-at-requires c κs = search needs
+byte-at-requires c κs = tt
 
 add-byte-at : tie.Need-add-byte-at
 add-byte-at c = search needs
 
 byte-at-requires-2 : tie.Need-byte-at-requires-2
-byte-at-requires-2 c κs = search needs
+byte-at-requires-2 c κs = tt
 
 add-byte-at-2 : tie.Need-add-byte-at-2
 add-byte-at-2 c = search needs
 
 byte-at-requires-3 : tie.Need-byte-at-requires-3
-byte-at-requires-3 c κs = search needs
+byte-at-requires-3 c κs = tt
 
 returns : tie.Need-returns
 returns c =

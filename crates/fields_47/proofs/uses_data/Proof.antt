@@ -37,7 +37,7 @@ array-copy-out-u : tie.Need-array-copy-out-u Inv-loop μ-loop
 array-copy-out-u c = omega arith
 
 use-data-requires : tie.Need-use-data-requires Inv-loop μ-loop
-use-data-requires c κs = search needs
+use-data-requires c κs = tt
 
 slice-aggregate-put : tie.Need-slice-aggregate-put Inv-loop μ-loop
 slice-aggregate-put c = search needs

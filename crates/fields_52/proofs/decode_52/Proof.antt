@@ -9,7 +9,7 @@ use Rattle.fields_52.proofs.decode_52.Statement.{statement}
 use Rattle.fields_52.proofs.decode_52.Tie as tie
 
 content-requires : tie.Need-content-requires
-content-requires c κs = search needs
+content-requires c κs = tt
 
 first-entries-requires : tie.Need-first-entries-requires
 first-entries-requires c κs = search needs

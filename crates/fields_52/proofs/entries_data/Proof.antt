@@ -38,7 +38,7 @@ array-copy-out-e : tie.Need-array-copy-out-e Inv-loop μ-loop
 array-copy-out-e c = omega arith
 
 entry-data-requires : tie.Need-entry-data-requires Inv-loop μ-loop
-entry-data-requires c κs = search needs
+entry-data-requires c κs = tt
 
 slice-aggregate-put : tie.Need-slice-aggregate-put Inv-loop μ-loop
 slice-aggregate-put c = search needs

@@ -7,7 +7,7 @@ use Rattle.fields_52.proofs.entry_data.Statement.{statement}
 use Rattle.fields_52.proofs.entry_data.Tie as tie
 
 int8-byte-requires : tie.Need-int8-byte-requires
-int8-byte-requires c κs = search needs
+int8-byte-requires c κs = tt
 
 cast-t4 : tie.Need-cast-t4
 cast-t4 c = search needs

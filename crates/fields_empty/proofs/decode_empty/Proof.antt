@@ -1,14 +1,13 @@
 -- `decode_empty` meets its contract: in the family as `content` has it, outside it 10.
 use mathlib.Core.Path.{sym, _∙_}
-use borrow.Author.Needs.{needs}
 use Rattle.fields_empty.proofs.decode_empty.Statement.{statement}
 use Rattle.fields_empty.proofs.decode_empty.Tie as tie
 
 empty-kind-requires : tie.Need-empty-kind-requires
-empty-kind-requires c κs = search needs
+empty-kind-requires c κs = tt
 
 content-requires : tie.Need-content-requires
-content-requires c κs = search needs
+content-requires c κs = tt
 
 returns : tie.Need-returns
 returns c =

@@ -6,7 +6,7 @@ use Rattle.fields_empty.proofs.encode_empty.Statement.{statement}
 use Rattle.fields_empty.proofs.encode_empty.Tie as tie
 
 empty-kind-requires : tie.Need-empty-kind-requires
-empty-kind-requires c κs = search needs
+empty-kind-requires c κs = tt
 
 returns : tie.Need-returns
 returns c = rw (sym (c .before .empty-kind .ensures) ∙ not-true _ (c .if1 .taken)) (refl, refl)
@@ -18,7 +18,7 @@ slice-aggregate-deliver : tie.Need-slice-aggregate-deliver
 slice-aggregate-deliver c = search needs
 
 deliver-requires : tie.Need-deliver-requires
-deliver-requires c κs = search needs
+deliver-requires c κs = tt
 
 same-length : tie.Need-same-length
 same-length c = search needs

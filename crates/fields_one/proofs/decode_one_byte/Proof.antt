@@ -1,13 +1,12 @@
 -- `decode_one_byte` meets its contract: by the refusal, then field by field.
 use mathlib.Core.Path.{sym, _∙_}
-use borrow.Author.Needs.{needs}
 use borrow.Author.Tests.{eq-eqb, ne-eqb}
 use Rattle.fields_one.specs.Family.{readOneByte}
 use Rattle.fields_one.proofs.decode_one_byte.Statement.{statement}
 use Rattle.fields_one.proofs.decode_one_byte.Tie as tie
 
 judge-one-byte-requires : tie.Need-judge-one-byte-requires
-judge-one-byte-requires c κs = search needs
+judge-one-byte-requires c κs = tt
 
 returns : tie.Need-returns
 unfolding readOneByte
@@ -16,7 +15,7 @@ returns c =
     rw (ne-eqb _ _ (λ z. c .if1 .taken (e ∙ z)), e)
 
 byte-at-requires : tie.Need-byte-at-requires
-byte-at-requires c κs = search needs
+byte-at-requires c κs = tt
 
 returns-2 : tie.Need-returns-2
 unfolding readOneByte

@@ -8,7 +8,7 @@ use Rattle.fields_one.proofs.encode_one_byte.Statement.{statement}
 use Rattle.fields_one.proofs.encode_one_byte.Tie as tie
 
 one-byte-kind-requires : tie.Need-one-byte-kind-requires
-one-byte-kind-requires c κs = search needs
+one-byte-kind-requires c κs = tt
 
 returns : tie.Need-returns
 unfolding writeOneByte fillOneByte
@@ -27,7 +27,7 @@ slice-aggregate-deliver : tie.Need-slice-aggregate-deliver
 slice-aggregate-deliver c = sym (length-take-le _ _ (search needs))
 
 deliver-requires : tie.Need-deliver-requires
-deliver-requires c κs = search needs
+deliver-requires c κs = tt
 
 same-length : tie.Need-same-length
 same-length c = search needs

@@ -1,14 +1,13 @@
 -- `judge_one_byte` meets its contract: in the family as `content` has it, outside it 10.
 use mathlib.Core.Path.{sym, _∙_}
-use borrow.Author.Needs.{needs}
 use Rattle.fields_one.proofs.judge_one_byte.Statement.{statement}
 use Rattle.fields_one.proofs.judge_one_byte.Tie as tie
 
 one-byte-kind-requires : tie.Need-one-byte-kind-requires
-one-byte-kind-requires c κs = search needs
+one-byte-kind-requires c κs = tt
 
 content-requires : tie.Need-content-requires
-content-requires c κs = search needs
+content-requires c κs = tt
 
 returns : tie.Need-returns
 returns c =

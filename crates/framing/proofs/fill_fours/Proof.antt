@@ -27,7 +27,7 @@ loop-holds c =
     (search needs, copied-none (now (x .d)) (now (x .s)) (x .len) (x .from) (c .before .pre .2))
 
 four-plain-requires : tie.Need-four-plain-requires Inv-loop μ-loop
-four-plain-requires c κs = search needs
+four-plain-requires c κs = tt
 
 sub-to : tie.Need-sub-to Inv-loop μ-loop
 sub-to c = omega (arith, plain-here (c .before) (c .if1 .taken) .there, c .before .before .loop .inv .1 .least, c .before .before .loop .inv .1 .whole)

@@ -1,7 +1,6 @@
 -- `framing::frame` meets its contract: questions 1 to 3, then the bytes.
 use mathlib.Core.Path.{_≡_, refl, sym, subst}
 use native.Mathlib.Omega.{arith}
-use borrow.Author.Needs.{needs}
 use lib.ListN.{length}
 use denote.Ref.{now}
 use Rattle.record.specs.Question.{Valid, Questions, recordOf}
@@ -21,10 +20,10 @@ valid : (c : tie.Else1) → Valid (of (c .before .before .before .before .before
 valid c = c .before .question .ensures .valid (c .if1 .left)
 
 start-requires : tie.Need-start-requires
-start-requires c κs = search needs
+start-requires c κs = tt
 
 question-requires : tie.Need-question-requires
-question-requires c κs = search needs
+question-requires c κs = tt
 
 returns : tie.Need-returns
 returns c =
@@ -37,7 +36,7 @@ returns c =
     }
 
 span-requires : tie.Need-span-requires
-span-requires c κs = search needs
+span-requires c κs = tt
 
 run-requires : tie.Need-run-requires
 run-requires c κs =

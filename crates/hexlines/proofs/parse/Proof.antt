@@ -3,7 +3,6 @@
 use mathlib.Core.Path.{ap, _∙_}
 use Prim.Native.Nat.{ℕ, _+_, _-_, _*_, _≤_, _<_}
 use native.Mathlib.Omega.{arith}
-use borrow.Author.Needs.{needs}
 use lib.ListN.{length, getD, set}
 use Rattle.hexlines.specs.Lines.{digitOf}
 use Rattle.hexlines.proofs.ByteLaws.{Left, left-all, left-more, left-read, left-full}
@@ -46,13 +45,13 @@ add-byte-at : tie.Need-add-byte-at Inv-loop μ-loop
 add-byte-at c = omega arith
 
 byte-at-requires : tie.Need-byte-at-requires Inv-loop μ-loop
-byte-at-requires c κs = search needs
+byte-at-requires c κs = tt
 
 shared-slice-read-octet : tie.Need-shared-slice-read-octet Inv-loop μ-loop
 shared-slice-read-octet c = omega arith
 
 octet-requires : tie.Need-octet-requires Inv-loop μ-loop
-octet-requires c κs = search needs
+octet-requires c κs = tt
 
 slice-write-out : tie.Need-slice-write-out Inv-loop μ-loop
 slice-write-out c = omega arith

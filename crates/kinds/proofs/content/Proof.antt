@@ -13,7 +13,7 @@ found-as : (c : tie.After-found) → listed (rowIn table (c .before .before .bef
 found-as c = sym (c .before .before .find-kind .ensures) ∙ c .found .given .1
 
 find-kind-requires : tie.Need-find-kind-requires
-find-kind-requires c κs = search needs
+find-kind-requires c κs = tt
 
 enum-known-found : tie.Need-enum-known-found
 enum-known-found c = search needs
@@ -25,7 +25,7 @@ returns : tie.Need-returns
 returns c = let f = c .before .before in sym (content-unlisted _ _ (sym (f .find-kind .ensures) ∙ c .enum-told .given .1))
 
 length-ok-requires : tie.Need-length-ok-requires
-length-ok-requires c κs = search needs
+length-ok-requires c κs = tt
 
 returns-2 : tie.Need-returns-2
 returns-2 c =
@@ -33,7 +33,7 @@ returns-2 c =
     rw (content-listed _ _ _ (found-as (l .before .before)), sym (l .length-ok .ensures) ∙ not-true _ (c .if1 .taken))
 
 in-range-requires : tie.Need-in-range-requires
-in-range-requires c κs = search needs
+in-range-requires c κs = tt
 
 returns-3 : tie.Need-returns-3
 returns-3 c =

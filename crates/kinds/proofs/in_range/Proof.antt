@@ -8,7 +8,7 @@ use Rattle.kinds.proofs.in_range.Statement.{statement}
 use Rattle.kinds.proofs.in_range.Tie as tie
 
 in-1f-requires : tie.Need-in-1f-requires
-in-1f-requires c κs = search needs
+in-1f-requires c κs = tt
 
 in-20-requires : tie.Need-in-20-requires
 in-20-requires c κs = search needs
@@ -29,7 +29,7 @@ in-49-requires : tie.Need-in-49-requires
 in-49-requires c κs = search needs
 
 in-eb-requires : tie.Need-in-eb-requires
-in-eb-requires c κs = search needs
+in-eb-requires c κs = tt
 
 in-52-requires : tie.Need-in-52-requires
 in-52-requires c κs = search needs

@@ -7,10 +7,10 @@ use Rattle.kinds.proofs.length_ok.Statement.{statement}
 use Rattle.kinds.proofs.length_ok.Tie as tie
 
 allows-length-requires : tie.Need-allows-length-requires
-allows-length-requires c κs = search needs
+allows-length-requires c κs = tt
 
 byte-at-requires : tie.Need-byte-at-requires
-byte-at-requires c κs = search needs
+byte-at-requires c κs = tt
 
 chosen-49-requires : tie.Need-chosen-49-requires
 chosen-49-requires c κs = search needs

@@ -18,7 +18,7 @@ returns-2 : tie.Need-returns-2
 returns-2 c = λ p. decided-no (c .before .fits-46 .result) (c .before .fits-46 .ensures) (c .if2 .taken) (p .ok46)
 
 fits-eb-requires : tie.Need-fits-eb-requires
-fits-eb-requires c κs = search needs
+fits-eb-requires c κs = tt
 
 returns-3 : tie.Need-returns-3
 returns-3 c =

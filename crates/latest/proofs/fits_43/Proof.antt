@@ -14,7 +14,7 @@ slice-aggregate-acceptable-43 : tie.Need-slice-aggregate-acceptable-43
 slice-aggregate-acceptable-43 c = search needs
 
 acceptable-43-requires : tie.Need-acceptable-43-requires
-acceptable-43-requires c κs = search needs
+acceptable-43-requires c κs = tt
 
 returns : tie.Need-returns
 returns c =

@@ -14,7 +14,7 @@ slice-aggregate-acceptable-46 : tie.Need-slice-aggregate-acceptable-46
 slice-aggregate-acceptable-46 c = search needs
 
 acceptable-46-requires : tie.Need-acceptable-46-requires
-acceptable-46-requires c κs = search needs
+acceptable-46-requires c κs = tt
 
 returns : tie.Need-returns
 returns c =

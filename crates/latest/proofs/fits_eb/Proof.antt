@@ -14,7 +14,7 @@ slice-aggregate-acceptable-eb : tie.Need-slice-aggregate-acceptable-eb
 slice-aggregate-acceptable-eb c = search needs
 
 acceptable-eb-requires : tie.Need-acceptable-eb-requires
-acceptable-eb-requires c κs = search needs
+acceptable-eb-requires c κs = tt
 
 returns : tie.Need-returns
 returns c =

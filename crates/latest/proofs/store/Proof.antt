@@ -29,10 +29,10 @@ module _ (id k n len : ℕ) (d : List ℕ) (e : id ≡ k) (fits : length (take l
   kept b x w q = q ∙ ap (λ y. placed b 0 y) own ∙ filled b (take len d) (size ∙ sym w)
 
 clip-requires : tie.Need-clip-requires
-clip-requires c κs = search needs
+clip-requires c κs = tt
 
 size-requires : tie.Need-size-requires
-size-requires c κs = search needs
+size-requires c κs = tt
 
 -- the length is the kind's
 fits : (c : tie.Else1)

@@ -60,7 +60,7 @@ part-feed-in-place-end : tie.Need-part-feed-in-place-end Inv-loop μ-loop
 part-feed-in-place-end c = omega arith
 
 feed-in-place-requires : tie.Need-feed-in-place-requires Inv-loop μ-loop
-feed-in-place-requires c κs = search needs
+feed-in-place-requires c κs = tt
 
 returns : tie.Need-returns Inv-loop μ-loop
 returns c =
@@ -88,7 +88,7 @@ add-at c =
     omega (arith, within e, short (e .before .before .before .before .before .before .before .before))
 
 raises-requires : tie.Need-raises-requires Inv-loop μ-loop
-raises-requires c κs = search needs
+raises-requires c κs = tt
 
 add-events : tie.Need-add-events Inv-loop μ-loop
 add-events c =

@@ -1,11 +1,10 @@
 -- `count_events` meets its contract: nothing where the fresh reader is refused, else what `count` says.
-use borrow.Author.Needs.{needs}
 use Rattle.lister.proofs.FreshLaws.{fresh-refused, fresh-good}
 use Rattle.lister.proofs.count_events.Statement.{statement}
 use Rattle.lister.proofs.count_events.Tie as tie
 
 fresh-requires : tie.Need-fresh-requires
-fresh-requires c κs = search needs
+fresh-requires c κs = tt
 
 returns : tie.Need-returns
 returns c =
@@ -13,7 +12,7 @@ returns c =
     rw (fresh-refused _ (f .fresh .result) (f .fresh .ensures) (c .if1 .taken) .0)
 
 count-requires : tie.Need-count-requires
-count-requires c κs = search needs
+count-requires c κs = tt
 
 returns-2 : tie.Need-returns-2
 returns-2 c =

@@ -94,7 +94,7 @@ sub-offer : tie.Need-sub-offer Inv-loop μ-loop
 sub-offer c = c .loop .inv .0 .room
 
 offer-requires : tie.Need-offer-requires Inv-loop μ-loop
-offer-requires c κs = search needs
+offer-requires c κs = tt
 
 sub-feed-in-place : tie.Need-sub-feed-in-place Inv-loop μ-loop
 sub-feed-in-place c = bounds (c .before) .0
@@ -106,10 +106,10 @@ part-feed-in-place-end : tie.Need-part-feed-in-place-end Inv-loop μ-loop
 part-feed-in-place-end c = bounds (c .before) .1
 
 feed-in-place-requires : tie.Need-feed-in-place-requires Inv-loop μ-loop
-feed-in-place-requires c κs = search needs
+feed-in-place-requires c κs = tt
 
 number-requires : tie.Need-number-requires Inv-loop μ-loop
-number-requires c κs = search needs
+number-requires c κs = tt
 
 same-length : tie.Need-same-length Inv-loop μ-loop
 same-length c = c .before .before .before .before .before .before .before .before .before .loop .inv .0 .same

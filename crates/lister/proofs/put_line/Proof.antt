@@ -43,7 +43,7 @@ enum-told-2 : tie.Need-enum-told-2
 enum-told-2 c = search needs
 
 event-line-requires : tie.Need-event-line-requires
-event-line-requires c κs = search needs
+event-line-requires c κs = tt
 
 same-length : tie.Need-same-length
 same-length c = search needs
@@ -62,7 +62,7 @@ enum-known-e : tie.Need-enum-known-e
 enum-known-e c = search needs
 
 event-line-requires-2 : tie.Need-event-line-requires-2
-event-line-requires-2 c κs = search needs
+event-line-requires-2 c κs = tt
 
 same-length-2 : tie.Need-same-length-2
 same-length-2 c = search needs

@@ -36,7 +36,7 @@ slice-aggregate-deliver c =
     sym (length-take-le _ (p .put-total .last .1 .1 .1 .1 .1 .0) (omega (arith, p .put-total .ensures .0, p .put-total .kept .1 .1 .1 .1 .1 .0, short (p .before .before .before))))
 
 deliver-requires : tie.Need-deliver-requires
-deliver-requires c κs = search needs
+deliver-requires c κs = tt
 
 same-length : tie.Need-same-length
 same-length c = search needs

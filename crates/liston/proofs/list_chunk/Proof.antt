@@ -27,7 +27,7 @@ part-list-part-end : tie.Need-part-list-part-end Inv-loop μ-loop
 part-list-part-end c = search needs
 
 list-part-requires : tie.Need-list-part-requires Inv-loop μ-loop
-list-part-requires c κs = search needs
+list-part-requires c κs = tt
 
 slice-reshare-prefix-write-all : tie.Need-slice-reshare-prefix-write-all Inv-loop μ-loop
 slice-reshare-prefix-write-all c = search needs
@@ -36,7 +36,7 @@ slice-aggregate-write-all : tie.Need-slice-aggregate-write-all Inv-loop μ-loop
 slice-aggregate-write-all c = search needs
 
 write-all-requires : tie.Need-write-all-requires Inv-loop μ-loop
-write-all-requires c κs = search needs
+write-all-requires c κs = tt
 
 same-length : tie.Need-same-length Inv-loop μ-loop
 same-length c = search needs

@@ -4,7 +4,6 @@ use mathlib.Core.Bool.{and-eq-true-iff}
 use Prim.Native.Nat.{ℕ, _-_, _≤_, _<_}
 use native.Mathlib.Omega.{arith}
 use borrow.Author.Count.{below-more}
-use borrow.Author.Needs.{needs}
 use borrow.Author.Tests.{eqb-true, eq-eqb}
 use Rattle.limits.proofs.CountLaws.{never}
 use Rattle.lookup.specs.Lookup.{Holds}
@@ -18,7 +17,7 @@ abbrev μ-loop : tie.MeasureT-loop
 μ-loop body system number refusal n i₀ i = n - i
 
 content-requires : tie.Need-content-requires Inv-loop μ-loop
-content-requires c κs = search needs
+content-requires c κs = tt
 
 returns : tie.Need-returns Inv-loop μ-loop
 returns c = (sym (c .before .content .ensures), c .if1 .taken)
@@ -30,13 +29,13 @@ mul-at : tie.Need-mul-at Inv-loop μ-loop
 mul-at c = omega arith
 
 byte-at-requires : tie.Need-byte-at-requires Inv-loop μ-loop
-byte-at-requires c κs = search needs
+byte-at-requires c κs = tt
 
 add-byte-at : tie.Need-add-byte-at Inv-loop μ-loop
 add-byte-at c = omega arith
 
 byte-at-requires-2 : tie.Need-byte-at-requires-2 Inv-loop μ-loop
-byte-at-requires-2 c κs = search needs
+byte-at-requires-2 c κs = tt
 
 returns-2 : tie.Need-returns-2 Inv-loop μ-loop
 returns-2 c =

@@ -1,10 +1,9 @@
 -- `u64_at` meets its contract: by what its callee ensures.
-use borrow.Author.Needs.{needs}
 use Rattle.numbers.proofs.u64_at.Statement.{statement}
 use Rattle.numbers.proofs.u64_at.Tie as tie
 
 number-at-requires : tie.Need-number-at-requires
-number-at-requires c κs = search needs
+number-at-requires c κs = tt
 
 returns : tie.Need-returns
 returns c = c .number-at .ensures .0

@@ -5,7 +5,6 @@ use Prim.Native.Nat.{_+_, _-_, _≤_, _<_}
 use native.Mathlib.Nat.{add-zero, add-assoc}
 use native.Mathlib.Numerals.{add-one}
 use native.Mathlib.Omega.{arith}
-use borrow.Author.Needs.{needs}
 use borrow.Author.Tests.{le-leb, lt-leb, leb-true, leb-false, not-true, not-false}
 use lib.ListN.{length, drop, getD, length-set, length-drop}
 use lib.Seq.{drop-cons, drop-length}
@@ -28,7 +27,7 @@ inside c =
     omega (arith, leb-true)
 
 within-requires : tie.Need-within-requires Inv-loop μ-loop
-within-requires c κs = search needs
+within-requires c κs = tt
 
 returns : tie.Need-returns Inv-loop μ-loop
 returns c =

@@ -1,16 +1,15 @@
 -- `in_20` meets its contract: each field is what its reader ensures.
-use borrow.Author.Needs.{needs}
 use Rattle.range_satellites.proofs.in_20.Statement.{statement}
 use Rattle.range_satellites.proofs.in_20.Tie as tie
 
 byte-at-requires : tie.Need-byte-at-requires
-byte-at-requires c κs = search needs
+byte-at-requires c κs = tt
 
 byte-at-requires-2 : tie.Need-byte-at-requires-2
-byte-at-requires-2 c κs = search needs
+byte-at-requires-2 c κs = tt
 
 satellite-requires : tie.Need-satellite-requires
-satellite-requires c κs = search needs
+satellite-requires c κs = tt
 
 returns : tie.Need-returns
 returns c = rw (c .satellite .ensures, c .before .byte-at2 .ensures, c .before .before .byte-at .ensures)

@@ -5,19 +5,19 @@ use Rattle.range_satellites.proofs.in_49.Statement.{statement}
 use Rattle.range_satellites.proofs.in_49.Tie as tie
 
 byte-at-requires : tie.Need-byte-at-requires
-byte-at-requires c κs = search needs
+byte-at-requires c κs = tt
 
 byte-at-requires-2 : tie.Need-byte-at-requires-2
-byte-at-requires-2 c κs = search needs
+byte-at-requires-2 c κs = tt
 
 byte-at-requires-3 : tie.Need-byte-at-requires-3
-byte-at-requires-3 c κs = search needs
+byte-at-requires-3 c κs = tt
 
 int8-of-requires : tie.Need-int8-of-requires
-int8-of-requires c κs = search needs
+int8-of-requires c κs = tt
 
 carrier-requires : tie.Need-carrier-requires
-carrier-requires c κs = search needs
+carrier-requires c κs = tt
 
 returns : tie.Need-returns
 returns c =

@@ -1,29 +1,28 @@
 -- `in_43` meets its contract: each field is what its reader ensures.
-use borrow.Author.Needs.{needs}
 use Rattle.limits.specs.Ranges.{all}
 use Rattle.range_states.proofs.in_43.Statement.{statement}
 use Rattle.range_states.proofs.in_43.Tie as tie
 
 byte-at-requires : tie.Need-byte-at-requires
-byte-at-requires c κs = search needs
+byte-at-requires c κs = tt
 
 byte-at-requires-2 : tie.Need-byte-at-requires-2
-byte-at-requires-2 c κs = search needs
+byte-at-requires-2 c κs = tt
 
 antenna-requires : tie.Need-antenna-requires
-antenna-requires c κs = search needs
+antenna-requires c κs = tt
 
 byte-at-requires-3 : tie.Need-byte-at-requires-3
-byte-at-requires-3 c κs = search needs
+byte-at-requires-3 c κs = tt
 
 byte-at-requires-4 : tie.Need-byte-at-requires-4
-byte-at-requires-4 c κs = search needs
+byte-at-requires-4 c κs = tt
 
 byte-at-requires-5 : tie.Need-byte-at-requires-5
-byte-at-requires-5 c κs = search needs
+byte-at-requires-5 c κs = tt
 
 byte-at-requires-6 : tie.Need-byte-at-requires-6
-byte-at-requires-6 c κs = search needs
+byte-at-requires-6 c κs = tt
 
 returns : tie.Need-returns
 unfolding all

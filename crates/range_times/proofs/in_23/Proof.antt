@@ -5,13 +5,13 @@ use Rattle.range_times.proofs.in_23.Statement.{statement}
 use Rattle.range_times.proofs.in_23.Tie as tie
 
 int8-at-requires : tie.Need-int8-at-requires
-int8-at-requires c κs = search needs
+int8-at-requires c κs = tt
 
 int8-at-requires-2 : tie.Need-int8-at-requires-2
-int8-at-requires-2 c κs = search needs
+int8-at-requires-2 c κs = tt
 
 zone-requires : tie.Need-zone-requires
-zone-requires c κs = search needs
+zone-requires c κs = tt
 
 returns : tie.Need-returns
 returns c =

@@ -5,25 +5,25 @@ use Rattle.range_times.proofs.in_46.Statement.{statement}
 use Rattle.range_times.proofs.in_46.Tie as tie
 
 u32-at-requires : tie.Need-u32-at-requires
-u32-at-requires c κs = search needs
+u32-at-requires c κs = tt
 
 byte-at-requires : tie.Need-byte-at-requires
-byte-at-requires c κs = search needs
+byte-at-requires c κs = tt
 
 byte-at-requires-2 : tie.Need-byte-at-requires-2
-byte-at-requires-2 c κs = search needs
+byte-at-requires-2 c κs = tt
 
 u16-at-requires : tie.Need-u16-at-requires
-u16-at-requires c κs = search needs
+u16-at-requires c κs = tt
 
 int8-at-requires : tie.Need-int8-at-requires
-int8-at-requires c κs = search needs
+int8-at-requires c κs = tt
 
 int8-at-requires-2 : tie.Need-int8-at-requires-2
-int8-at-requires-2 c κs = search needs
+int8-at-requires-2 c κs = tt
 
 zone-requires : tie.Need-zone-requires
-zone-requires c κs = search needs
+zone-requires c κs = tt
 
 returns : tie.Need-returns
 returns c =

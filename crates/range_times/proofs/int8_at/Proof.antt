@@ -5,10 +5,10 @@ use Rattle.range_times.proofs.int8_at.Statement.{statement}
 use Rattle.range_times.proofs.int8_at.Tie as tie
 
 byte-at-requires : tie.Need-byte-at-requires
-byte-at-requires c κs = search needs
+byte-at-requires c κs = tt
 
 int8-of-requires : tie.Need-int8-of-requires
-int8-of-requires c κs = search needs
+int8-of-requires c κs = tt
 
 returns : tie.Need-returns
 returns c = rw (toZ-ofZ (sfits-of (c .int8-of .ok)), c .int8-of .ensures, c .before .byte-at .ensures)

@@ -46,7 +46,7 @@ part-in-entry-end : tie.Need-part-in-entry-end Inv-loop μ-loop
 part-in-entry-end c = omega arith
 
 in-entry-requires : tie.Need-in-entry-requires Inv-loop μ-loop
-in-entry-requires c κs = search needs
+in-entry-requires c κs = tt
 
 returns : tie.Need-returns Inv-loop μ-loop
 returns c =

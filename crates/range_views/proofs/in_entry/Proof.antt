@@ -1,25 +1,24 @@
 -- `in_entry` meets its contract: each field is what its reader ensures.
-use borrow.Author.Needs.{needs}
 use Rattle.range_views.proofs.in_entry.Statement.{statement}
 use Rattle.range_views.proofs.in_entry.Tie as tie
 
 byte-at-requires : tie.Need-byte-at-requires
-byte-at-requires c κs = search needs
+byte-at-requires c κs = tt
 
 byte-at-requires-2 : tie.Need-byte-at-requires-2
-byte-at-requires-2 c κs = search needs
+byte-at-requires-2 c κs = tt
 
 u16-at-requires : tie.Need-u16-at-requires
-u16-at-requires c κs = search needs
+u16-at-requires c κs = tt
 
 visible-requires : tie.Need-visible-requires
-visible-requires c κs = search needs
+visible-requires c κs = tt
 
 byte-at-requires-3 : tie.Need-byte-at-requires-3
-byte-at-requires-3 c κs = search needs
+byte-at-requires-3 c κs = tt
 
 carrier-byte-requires : tie.Need-carrier-byte-requires
-carrier-byte-requires c κs = search needs
+carrier-byte-requires c κs = tt
 
 returns : tie.Need-returns
 returns c =

@@ -4,10 +4,10 @@ use Rattle.range_views.proofs.visible.Statement.{statement}
 use Rattle.range_views.proofs.visible.Tie as tie
 
 byte-at-requires : tie.Need-byte-at-requires
-byte-at-requires c κs = search needs
+byte-at-requires c κs = tt
 
 byte-at-requires-2 : tie.Need-byte-at-requires-2
-byte-at-requires-2 c κs = search needs
+byte-at-requires-2 c κs = tt
 
 in-20-requires : tie.Need-in-20-requires
 in-20-requires c κs = search needs

@@ -1,7 +1,6 @@
 -- `reader::feed_in_place` meets its contract: questions 1 to 3, then the bytes.
 use mathlib.Core.Path.{_≡_, refl, sym, ap, _∙_}
 use mathlib.Core.List.{[]}
-use borrow.Author.Needs.{needs}
 use lib.ListN.{length, take}
 use Rattle.latest.specs.Latest.{latestOf}
 use Rattle.latest.proofs.Storing.{stored-acceptable}
@@ -12,7 +11,7 @@ use Rattle.reader.proofs.feed_in_place.Statement.{statement}
 use Rattle.reader.proofs.feed_in_place.Tie as tie
 
 frame-requires : tie.Need-frame-requires
-frame-requires c κs = search needs
+frame-requires c κs = tt
 
 returns : tie.Need-returns
 returns c =
@@ -27,7 +26,7 @@ finish-requires c κs =
     ((y .room, y .sum), ((y .known, y .short, y .whole), y .busy))
 
 store-requires : tie.Need-store-requires
-store-requires c κs = search needs
+store-requires c κs = tt
 
 returns-2 : tie.Need-returns-2
 returns-2 c =

@@ -1,7 +1,6 @@
 -- `reader::judge` meets its contract: question 9 where there is a checksum, then 10 to 12.
 use mathlib.Core.Path.{_≡_, sym, ap, _∙_}
 use Prim.Native.Nat.{ℕ, _-_}
-use borrow.Author.Needs.{needs}
 use lib.ListN.{take}
 use denote.Ref.{now}
 use mathlib.Core.Bool.{true, false, cond}
@@ -38,7 +37,7 @@ slice-aggregate-content c =
     sym (length-take-le (x .args .len) (x .args .d .now) (x .pre))
 
 content-requires : tie.Need-content-requires
-content-requires c κs = search needs
+content-requires c κs = tt
 
 returns : tie.Need-returns
 returns c =
@@ -52,7 +51,7 @@ slice-aggregate-message c =
     sym (length-take-le (x .args .len) (x .args .d .now) (x .pre))
 
 message-requires : tie.Need-message-requires
-message-requires c κs = search needs
+message-requires c κs = tt
 
 slice-aggregate-content-2 : tie.Need-slice-aggregate-content-2
 slice-aggregate-content-2 c =
@@ -60,7 +59,7 @@ slice-aggregate-content-2 c =
     sym (length-take-le (x .args .len) (x .args .d .now) (x .pre))
 
 content-requires-2 : tie.Need-content-requires-2
-content-requires-2 c κs = search needs
+content-requires-2 c κs = tt
 
 returns-2 : tie.Need-returns-2
 returns-2 c =

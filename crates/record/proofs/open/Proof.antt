@@ -1,7 +1,6 @@
 -- `record::open` meets its contract: clause by clause.
 use Prim.Native.Nat.{_-_}
 use native.Mathlib.Omega.{arith}
-use borrow.Author.Needs.{needs}
 use Rattle.latest.proofs.Deciding.{decides-by}
 use Rattle.record.proofs.open.Statement.{statement}
 use Rattle.record.proofs.open.Tie as tie
@@ -16,7 +15,7 @@ returns-3 : tie.Need-returns-3
 returns-3 c = λ p. omega (arith, c .if4 .taken, p .summed (c .before .before .if3 .taken))
 
 usable-requires : tie.Need-usable-requires
-usable-requires c κs = search needs
+usable-requires c κs = tt
 
 returns-4 : tie.Need-returns-4
 returns-4 c =
@@ -27,7 +26,7 @@ returns-4 c =
     (λ p. record { usable = p .usable }) (c .usable .ensures)
 
 usable-requires-2 : tie.Need-usable-requires-2
-usable-requires-2 c κs = search needs
+usable-requires-2 c κs = tt
 
 returns-5 : tie.Need-returns-5
 returns-5 c =

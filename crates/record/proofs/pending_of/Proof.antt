@@ -19,7 +19,7 @@ slice-aggregate-count-dle c =
     sym (length-take-le (x .args .h .len) (x .args .d .now) (omega (arith, x .pre .0, x .pre .1)))
 
 count-dle-requires : tie.Need-count-dle-requires
-count-dle-requires c κs = search needs
+count-dle-requires c κs = tt
 
 -- no more of them than bytes
 few : (c : tie.After-count-dle) → c .count-dle .result ≤ 1024

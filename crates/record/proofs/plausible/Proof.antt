@@ -6,13 +6,13 @@ use Rattle.record.proofs.plausible.Statement.{statement}
 use Rattle.record.proofs.plausible.Tie as tie
 
 balanced-requires : tie.Need-balanced-requires
-balanced-requires c κs = search needs
+balanced-requires c κs = tt
 
 returns : tie.Need-returns
 returns c = λ p. decided-no (c .before .balanced .result) (c .before .balanced .ensures) (c .if1 .taken) (p .fed)
 
 acceptable-requires : tie.Need-acceptable-requires
-acceptable-requires c κs = search needs
+acceptable-requires c κs = tt
 
 returns-2 : tie.Need-returns-2
 returns-2 c = λ p. decided-no (c .before .acceptable .result) (c .before .acceptable .ensures) (c .if2 .taken) (p .latest)
@@ -36,7 +36,7 @@ returns-4 : tie.Need-returns-4
 returns-4 c = λ p. c .if4 .left (p .low (c .before .before .before .if3 .taken))
 
 open-requires : tie.Need-open-requires
-open-requires c κs = search needs
+open-requires c κs = tt
 
 returns-5 : tie.Need-returns-5
 returns-5 c =

@@ -95,7 +95,7 @@ returns-2 : tie.Need-returns-2
 returns-2 c = refused-2 (of (c .before .before .before .before)) _ (omega (arith, c .before .if1 .left)) (λ v. c .if2 .taken (v .whole))
 
 plausible-requires : tie.Need-plausible-requires
-plausible-requires c κs = search needs
+plausible-requires c κs = tt
 
 returns-3 : tie.Need-returns-3
 returns-3 c =

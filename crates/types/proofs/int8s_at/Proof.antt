@@ -5,10 +5,10 @@ use Rattle.types.proofs.int8s_at.Statement.{statement}
 use Rattle.types.proofs.int8s_at.Tie as tie
 
 int8u-at-requires : tie.Need-int8u-at-requires
-int8u-at-requires c κs = search needs
+int8u-at-requires c κs = tt
 
 int8-of-requires : tie.Need-int8-of-requires
-int8-of-requires c κs = search needs
+int8-of-requires c κs = tt
 
 returns : tie.Need-returns
 returns c = rw (toZ-ofZ (sfits-of (c .int8-of .ok)), c .int8-of .ensures, c .before .int8u-at .ensures)

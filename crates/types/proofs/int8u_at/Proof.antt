@@ -1,13 +1,12 @@
 -- `int8u_at` meets its contract: one byte is the number that it stands for.
 use mathlib.Core.Path.{sym, _∙_}
-use borrow.Author.Needs.{needs}
 use denote.Ref.{now}
 use Rattle.numbers.proofs.NumberLaws.{number-one}
 use Rattle.types.proofs.int8u_at.Statement.{statement}
 use Rattle.types.proofs.int8u_at.Tie as tie
 
 byte-at-requires : tie.Need-byte-at-requires
-byte-at-requires c κs = search needs
+byte-at-requires c κs = tt
 
 returns : tie.Need-returns
 returns c = c .byte-at .ensures ∙ sym (number-one _ _)

@@ -14,10 +14,10 @@ slice-aggregate-after-slice : tie.Need-slice-aggregate-after-slice Inv-loop μ-l
 slice-aggregate-after-slice c = search needs
 
 after-slice-requires : tie.Need-after-slice-requires Inv-loop μ-loop
-after-slice-requires c κs = search needs
+after-slice-requires c κs = tt
 
 show-requires : tie.Need-show-requires Inv-loop μ-loop
-show-requires c κs = search needs
+show-requires c κs = tt
 
 loop-holds : tie.Need-loop-holds Inv-loop μ-loop
 loop-holds c = search needs
@@ -26,7 +26,7 @@ cast-entry : tie.Need-cast-entry Inv-loop μ-loop
 cast-entry c = search needs
 
 entry-requires : tie.Need-entry-requires Inv-loop μ-loop
-entry-requires c κs = search needs
+entry-requires c κs = tt
 
 add-i : tie.Need-add-i Inv-loop μ-loop
 add-i c = search needs

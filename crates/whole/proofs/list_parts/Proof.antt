@@ -107,7 +107,7 @@ slice-aggregate-list-part : tie.Need-slice-aggregate-list-part Inv-loop μ-loop
 slice-aggregate-list-part c = c .before .before .loop .inv .long
 
 list-part-requires : tie.Need-list-part-requires Inv-loop μ-loop
-list-part-requires c κs = search needs
+list-part-requires c κs = tt
 
 sub-if1 : tie.Need-sub-if1 Inv-loop μ-loop
 sub-if1 c = let w = c .before .before .before .before .loop .inv in omega (arith, w .fits, w .same)
@@ -130,7 +130,7 @@ slice-aggregate-put-if : tie.Need-slice-aggregate-put-if Inv-loop μ-loop
 slice-aggregate-put-if c = c .before .before .before .list-part .ensures .1 .1 .1
 
 put-if-requires : tie.Need-put-if-requires Inv-loop μ-loop
-put-if-requires c κs = search needs
+put-if-requires c κs = tt
 
 add-to : tie.Need-add-to Inv-loop μ-loop
 add-to c =
@@ -144,7 +144,7 @@ slice-aggregate-list-total c =
     long (u .before .before .before .before .before)
 
 list-total-requires : tie.Need-list-total-requires Inv-loop μ-loop
-list-total-requires c κs = search needs
+list-total-requires c κs = tt
 
 sub-if3 : tie.Need-sub-if3 Inv-loop μ-loop
 sub-if3 c =
@@ -174,7 +174,7 @@ slice-aggregate-put-if-2 : tie.Need-slice-aggregate-put-if-2 Inv-loop μ-loop
 slice-aggregate-put-if-2 c = c .before .before .before .list-total .ensures .1 .0 .1
 
 put-if-requires-2 : tie.Need-put-if-requires-2 Inv-loop μ-loop
-put-if-requires-2 c κs = search needs
+put-if-requires-2 c κs = tt
 
 -- the total fits too
 fits : (c : tie.After-put-if2 Inv-loop μ-loop)

@@ -1,13 +1,12 @@
 -- `frame_length` meets its contract by the law of the frame's length.
 use native.Mathlib.Omega.{arith}
-use borrow.Author.Needs.{needs}
 use Rattle.stuffing.proofs.StuffingLaws.{dles-le}
 use Rattle.writer.proofs.FrameLength.{frame-plain, frame-summed, not-plain}
 use Rattle.writer.proofs.frame_length.Statement.{statement}
 use Rattle.writer.proofs.frame_length.Tie as tie
 
 count-dle-requires : tie.Need-count-dle-requires
-count-dle-requires c κs = search needs
+count-dle-requires c κs = tt
 
 add-n : tie.Need-add-n
 add-n c = omega (arith, dles-le (c .before .before .args .body .now))

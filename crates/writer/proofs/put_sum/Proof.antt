@@ -18,7 +18,7 @@ returns c =
     rw (c .if1 .taken) (sym (add-zero (a .at)), sym (placed-nil (a .buf .now) (a .at)))
 
 message-requires : tie.Need-message-requires
-message-requires c κs = search needs
+message-requires c κs = tt
 
 cast-c1 : tie.Need-cast-c1
 cast-c1 c = search needs

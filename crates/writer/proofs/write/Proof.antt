@@ -22,7 +22,7 @@ returns c =
     wrong-mode (a .mode) (a .id) (a .body .now) (a .buf .now) (omega arith)
 
 content-requires : tie.Need-content-requires
-content-requires c κs = search needs
+content-requires c κs = tt
 
 returns-2 : tie.Need-returns-2
 returns-2 c =

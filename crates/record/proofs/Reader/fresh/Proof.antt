@@ -3,7 +3,6 @@ use mathlib.Core.Path.{_≡_, refl, sym, ap, _∙_}
 use mathlib.Core.List.{[]}
 use Prim.Native.Nat.{ℕ, _-_, _≤_}
 use native.Mathlib.Omega.{arith}
-use borrow.Author.Needs.{needs}
 use mathlib.Core.Bool.{cond}
 use mathlib.Core.Option.{none}
 use borrow.Author.Tests.{le-leb}
@@ -32,7 +31,7 @@ fresh-blank m g =
     ∙ (λ i. made (record { mode = m; place = placeOf 0 0 [] 0 0; fed = 0; accepted = 0; refused = 0; outside = 0; pending = 0; latest = λ k. no-latest m k i }))
 
 blank-requires : tie.Need-blank-requires
-blank-requires c κs = search needs
+blank-requires c κs = tt
 
 returns : tie.Need-returns
 returns c =
