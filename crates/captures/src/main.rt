@@ -143,7 +143,7 @@ fn by_cut(r0: Reader, s: &[u8], cut: usize) -> u64 {
     let mut done: usize = 0;
     while done < s.len() {
         let end = stop(done, cut, s.len());
-        let f = reader::feed(r, &s[done..end]);
+        let f = calls::feed(r, &s[done..end]);
         let n = f.taken;
         r = f.reader;
         // A call that takes nothing, or claims more than it was given, is wrong.

@@ -18,7 +18,7 @@ use Rattle.record.specs.declared.Reader.{Reader}
 use Rattle.framing.specs.declared.Moved.{Moved}
 use Rattle.record.proofs.Data.{tested, data-take, data-length}
 use Rattle.framing.proofs.Feeding.{closes}
-use Rattle.record.proofs.Asking.{Asks, clauses-open, of-possible}
+use Rattle.questions.proofs.Asking.{Asks, clauses-open, of-possible}
 
 -- in W and WD the data do not count
 place-low : (n id : ℕ) (d d′ : List ℕ) (c1 c2 : ℕ) → n < 2 → placeOf n id d c1 c2 ≡ placeOf n id d′ c1 c2

@@ -6,8 +6,8 @@ use lib.ListN.{length}
 use Rattle.line.specs.Record.{limit, walk}
 use Rattle.latest.specs.Latest.{latestOf}
 use Rattle.latest.specs.declared.Latest.{Latest}
-use Rattle.record.specs.View.{view}
-use Rattle.record.specs.Question.{Questions, recordOf}
+use Rattle.record.specs.View.{view, recordOf}
+use Rattle.questions.specs.Question.{Questions}
 use Rattle.record.specs.declared.Head.{Head}
 use Rattle.record.specs.declared.Reader.{Reader}
 use Rattle.framing.specs.Moving.{Busy, baseOf, resultOf, startOf, turned}

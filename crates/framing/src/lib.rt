@@ -380,16 +380,18 @@ fn advance(mode: u8, m: Moving, d: &mut [u8; 1024], s: &[u8], at: usize, n: usiz
     requires { ⌜ Fits m at n × Sound mode m (now d) ⌝ }
     ensures { λ r. ⌜ Goes mode m (now (d .entry)) (now (d .exit)) (now (s .entry)) at n r ⌝ }
 {
+    let b = s[at];
+    let next = at + 1;
     let place = m.place;
     match place {
         0 => in_w(m, s, at, n),
-        1 => in_wd(m, s[at], at + 1, n),
+        1 => in_wd(m, b, next, n),
         2 => in_f(m, d, s, at, n),
-        3 => in_fd(mode, m, d, s[at], at + 1, n),
-        4 => in_c0(m, s[at], at + 1, n),
-        5 => in_c1(m, s[at], at + 1, n),
-        6 => in_e(m, s[at], at + 1, n),
-        _ => in_ed(m, s[at], at + 1, n),
+        3 => in_fd(mode, m, d, b, next, n),
+        4 => in_c0(m, b, next, n),
+        5 => in_c1(m, b, next, n),
+        6 => in_e(m, b, next, n),
+        _ => in_ed(m, b, next, n),
     }
 }
 
@@ -459,7 +461,7 @@ pub fn frame(h: Head, l: Latest, d: &mut [u8; 1024], s: &[u8]) -> Framed
     ensures { λ x. ⌜ FramePost h l (now (d .entry)) (now (d .exit)) (now (s .entry)) x ⌝ }
 {
     let m = start(h);
-    let v = record::question(h, l, d, s.len());
+    let v = questions::question(h, l, d, s.len());
     if v != 0 {
         let t = Moved {
             now: m,

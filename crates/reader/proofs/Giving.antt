@@ -8,8 +8,8 @@ use Rattle.line.specs.Table.Event.{refusal}
 use Rattle.line.specs.Record.{Kept, Possible, Result}
 use Rattle.latest.specs.Latest.{latestOf}
 use Rattle.latest.specs.declared.Latest.{Latest}
-use Rattle.record.specs.View.{placeOf, dataOf, view, partsOf, shown}
-use Rattle.record.specs.Question.{recordOf, Valid}
+use Rattle.record.specs.View.{placeOf, dataOf, view, partsOf, shown, recordOf}
+use Rattle.questions.specs.Question.{Valid}
 use Rattle.record.specs.declared.Reader.{Reader}
 use Rattle.record.specs.declared.Event.the-variants.{Refusal}
 use Rattle.framing.specs.Moving.{Out, baseOf, resultOf, turned}

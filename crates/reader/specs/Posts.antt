@@ -6,8 +6,8 @@ use lib.ListN.{length}
 use Rattle.line.specs.Table.Event.{refusal}
 use Rattle.line.specs.Record.{Asked, Result, walk}
 use Rattle.latest.specs.declared.Latest.{Latest}
-use Rattle.record.specs.View.{view, partsOf, shown}
-use Rattle.record.specs.Question.{Questions, recordOf}
+use Rattle.record.specs.View.{view, partsOf, shown, recordOf}
+use Rattle.questions.specs.Question.{Questions}
 use Rattle.record.specs.declared.Head.{Head}
 use Rattle.record.specs.declared.Reader.{Reader}
 use Rattle.record.specs.declared.Fed.{Fed}

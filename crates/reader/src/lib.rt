@@ -1,13 +1,10 @@
-// The slice call: bytes up to the first event, the end of the slice or the limit.
+// The slice call, in place: bytes up to the first event, the end of the slice or the limit.
 use framing::Act;
 use framing::Moved;
 use framing::Moving;
 use latest::Latest;
-use record::Answer;
 use record::Event;
-use record::Fed;
 use record::Head;
-use record::Reader;
 ghost use mathlib.Core.Bool.{false};
 ghost use mathlib.Core.Option.{Option};
 ghost use mathlib.Core.List.{List};
@@ -17,7 +14,7 @@ ghost use lib.ListN.{length, take};
 ghost use Rattle.line.specs.Frame.{modeOf, judge as judgeOf};
 ghost use Rattle.line.specs.Record.{limit, Kept};
 ghost use Rattle.framing.specs.Moving.{Busy, turned, baseOf};
-ghost use Rattle.reader.specs.Posts.{FeedPost, InPlacePost};
+ghost use Rattle.reader.specs.Posts.{InPlacePost};
 ghost use Rattle.reader.specs.Closing.{Finishes, headWith, resumed, reopenedBy, concludedBy, concluded};
 
 // What an act comes to: the head, the answer's parts, and whether a message was given.
@@ -192,7 +189,7 @@ pub fn feed_in_place(h: Head, l: Latest, d: &mut [u8; 1024], s: &[u8]) -> InPlac
     let e = o.event;
     let mut last = l;
     if o.keep {
-        last = latest::store(l, o.id, d, o.len);
+        last = storing::store(l, o.id, d, o.len);
     }
     InPlace {
         head: g,
@@ -202,33 +199,5 @@ pub fn feed_in_place(h: Head, l: Latest, d: &mut [u8; 1024], s: &[u8]) -> InPlac
         len: o.len,
         closed: o.closed,
         taken: t.at,
-    }
-}
-
-// The slice call: bytes up to the first event, the end of the slice or the limit.
-pub fn feed(old: Reader, s: &[u8]) -> Fed
-    ensures { λ x. ⌜ FeedPost old (now (s .entry)) x ⌝ }
-{
-    let h = old.head;
-    let l = old.latest;
-    let mut r = old;
-    let x = feed_in_place(h, l, &mut r.bytes, s);
-    let head = x.head;
-    let latest = x.latest;
-    r.head = head;
-    r.latest = latest;
-    let event = x.event;
-    let bytes = r.bytes;
-    let answer = Answer {
-        event: event,
-        id: x.id,
-        len: x.len,
-        bytes: bytes,
-        closed: x.closed,
-    };
-    Fed {
-        reader: r,
-        answer: answer,
-        taken: x.taken,
     }
 }

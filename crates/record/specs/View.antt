@@ -10,6 +10,8 @@ use Rattle.line.specs.Table.State.{W, WD, F, FD, C0, C1, E, ED}
 use Rattle.line.specs.Record.{Rec, Place}
 use Rattle.line.specs.Record.Place.{at, unknown}
 use Rattle.latest.specs.Latest.{latestOf}
+use Rattle.latest.specs.declared.Latest.{Latest}
+use Rattle.record.specs.declared.Head.{Head}
 use Rattle.record.specs.declared.Reader.{Reader}
 use Rattle.record.specs.declared.Answer.{Answer}
 use Rattle.record.specs.declared.Event.{Event}
@@ -28,6 +30,10 @@ placeOf n id d c1 c2 =
 -- n bytes: those of the array, and past its end zeros, so that a length above the array's is seen
 unfoldable pub dataOf : ℕ → List ℕ → List ℕ
 dataOf n body = take n (body ++ replicate n 0)
+
+-- a record of these parts
+abbrev pub recordOf : Head → Latest → List ℕ → Reader
+recordOf h l a = record { head = h; latest = l; bytes = a }
 
 abbrev pub view : Reader → Rec
 view r =

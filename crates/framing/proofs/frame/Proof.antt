@@ -3,7 +3,8 @@ use mathlib.Core.Path.{_≡_, refl, sym, subst}
 use native.Mathlib.Omega.{arith}
 use lib.ListN.{length}
 use denote.Ref.{now}
-use Rattle.record.specs.Question.{Valid, Questions, recordOf}
+use Rattle.record.specs.View.{recordOf}
+use Rattle.questions.specs.Question.{Valid, Questions}
 use Rattle.record.specs.declared.Reader.{Reader}
 use Rattle.framing.specs.Moving.{Pends, Sound, Fits, Ran}
 use Rattle.framing.specs.declared.Moving.{Moving}

@@ -3,8 +3,8 @@ use mathlib.Core.Path.{_≡_, refl, sym, ap, _∙_}
 use mathlib.Core.List.{[]}
 use lib.ListN.{length, take}
 use Rattle.latest.specs.Latest.{latestOf}
-use Rattle.latest.proofs.Storing.{stored-acceptable}
-use Rattle.record.specs.Question.{recordOf}
+use Rattle.storing.proofs.Storing.{stored-acceptable}
+use Rattle.record.specs.View.{recordOf}
 use Rattle.reader.specs.Closing.{storedBy}
 use Rattle.reader.proofs.Giving.{gives, answers, refuses}
 use Rattle.reader.proofs.feed_in_place.Statement.{statement}

@@ -7,8 +7,8 @@ use lib.ListN.{take}
 use denote.Ref.{now}
 use lib.Seq.{length-take-le}
 use Rattle.stuffing.proofs.StuffingLaws.{dles-le}
-use Rattle.record.proofs.pending_of.Statement.{statement}
-use Rattle.record.proofs.pending_of.Tie as tie
+use Rattle.questions.proofs.pending_of.Statement.{statement}
+use Rattle.questions.proofs.pending_of.Tie as tie
 
 cast-result : tie.Need-cast-result
 cast-result c = search needs

@@ -4,8 +4,8 @@ use native.Mathlib.Omega.{arith}
 use lib.ListN.{length}
 use lib.Seq.{length-take-le, take-all}
 use denote.Ref.{now}
-use Rattle.latest.proofs.clip.Statement.{statement}
-use Rattle.latest.proofs.clip.Tie as tie
+use Rattle.storing.proofs.clip.Statement.{statement}
+use Rattle.storing.proofs.clip.Tie as tie
 
 returns : tie.Need-returns
 returns c =

@@ -9,11 +9,12 @@ use denote.Ref.{now}
 use Rattle.line.specs.Record.{limit}
 use Rattle.latest.proofs.Deciding.{decided-yes, decided-no}
 use Rattle.latest.specs.declared.Latest.{Latest}
-use Rattle.record.specs.Question.{Valid, Questions, recordOf}
+use Rattle.record.specs.View.{recordOf}
+use Rattle.questions.specs.Question.{Valid, Questions}
 use Rattle.record.specs.declared.Reader.{Reader}
-use Rattle.record.proofs.Asking.{possible-low, possible-open, plausible-of, held-of}
-use Rattle.record.proofs.question.Statement.{statement}
-use Rattle.record.proofs.question.Tie as tie
+use Rattle.questions.proofs.Asking.{possible-low, possible-open, plausible-of, held-of}
+use Rattle.questions.proofs.question.Statement.{statement}
+use Rattle.questions.proofs.question.Tie as tie
 
 -- each way to answer
 module _ (r : Reader) (n : ℕ) where

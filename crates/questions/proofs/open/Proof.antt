@@ -2,8 +2,8 @@
 use Prim.Native.Nat.{_-_}
 use native.Mathlib.Omega.{arith}
 use Rattle.latest.proofs.Deciding.{decides-by}
-use Rattle.record.proofs.open.Statement.{statement}
-use Rattle.record.proofs.open.Tie as tie
+use Rattle.questions.proofs.open.Statement.{statement}
+use Rattle.questions.proofs.open.Tie as tie
 
 returns : tie.Need-returns
 returns c = λ p. omega (arith, c .if1 .taken, p .known)

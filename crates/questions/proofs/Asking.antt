@@ -18,11 +18,11 @@ use Rattle.line.specs.Table.{pending}
 use Rattle.line.specs.Record.{Place, Known, Fit, Possible, stateOf}
 use Rattle.line.specs.Record.Place.{unknown}
 use Rattle.line.proofs.Mirror.{PlaceOk}
 use Rattle.record.specs.View.{placeOf, dataOf, view}
 use Rattle.latest.specs.Latest.{perhaps, LatestOk}
-use Rattle.record.specs.Question.{Opened, Plausible, Held}
+use Rattle.questions.specs.Question.{Opened, Plausible, Held}
 use Rattle.record.specs.declared.Reader.{Reader}
 use Rattle.record.proofs.Data.{tested, data-take, data-length}
 
 -- a number from 0 to 7, or one above
 up : (k n : ℕ) → k ≤ n → eqb n k ≡ false → suc k ≤ n

@@ -1,10 +1,10 @@
--- `reader::feed` meets its contract: it is the call in place.
+-- `calls::feed` meets its contract: it is the call in place.
 use mathlib.Core.Path.{_≡_}
 use borrow.Author.Needs.{needs}
 use lib.ListN.{length}
 use Rattle.reader.proofs.Giving.{feeds}
-use Rattle.reader.proofs.feed.Statement.{statement}
-use Rattle.reader.proofs.feed.Tie as tie
+use Rattle.calls.proofs.feed.Statement.{statement}
+use Rattle.calls.proofs.feed.Tie as tie
 
 whole : (c : tie.Start) → length (c .args .old .bytes) ≡ 1024
 whole c = search needs

@@ -1,9 +1,9 @@
 -- `latest::size` meets its contract: arm by arm.
 use mathlib.Core.Path.{refl, sym, ap}
 use borrow.Author.Tests.{ne-eqb}
-use Rattle.latest.specs.Latest.{sizeFor}
-use Rattle.latest.proofs.size.Statement.{statement}
-use Rattle.latest.proofs.size.Tie as tie
+use Rattle.storing.specs.Stored.{sizeFor}
+use Rattle.storing.proofs.size.Statement.{statement}
+use Rattle.storing.proofs.size.Tie as tie
 
 returns : tie.Need-returns
 returns c = sym (ap sizeFor (c .match .keys1))

@@ -16,8 +16,9 @@ use Rattle.line.specs.Frame.{Acceptable}
 use Rattle.line.specs.Table.Event.{message}
 use Rattle.line.specs.Record.{Kept, idOf, replaced, update}
 use Rattle.line.specs.Record.Kept.{k43, k46, k4A, k4B, kEB}
-use Rattle.latest.specs.Latest.{latestOf, sizeOf, sizeFor, storedOf}
+use Rattle.latest.specs.Latest.{latestOf}
+use Rattle.storing.specs.Stored.{sizeOf, sizeFor, storedOf}
 use Rattle.latest.specs.declared.Latest.{Latest}
 
 -- bytes that fill a buffer are what it then holds
 pub filled : (b d : List ℕ) → length d ≡ length b → placed b 0 d ≡ d

@@ -5,9 +5,9 @@ use native.Mathlib.Omega.{arith}
 use mathlib.Core.Logic.{inl, inr}
 use Rattle.line.specs.Frame.Class.{dle, etx, sum, other}
 use Rattle.line.proofs.Classes.{class-other}
 use Rattle.record.proofs.Data.{is-dle, is-etx, is-sum}
-use Rattle.record.proofs.usable.Statement.{statement}
-use Rattle.record.proofs.usable.Tie as tie
+use Rattle.questions.proofs.usable.Statement.{statement}
+use Rattle.questions.proofs.usable.Tie as tie
 
 returns : tie.Need-returns
 returns c =

@@ -2,8 +2,8 @@
 use native.Mathlib.Omega.{arith}
 use borrow.Author.Needs.{needs}
 use Rattle.latest.proofs.Deciding.{decided-yes, decided-no, decides-by}
-use Rattle.record.proofs.plausible.Statement.{statement}
-use Rattle.record.proofs.plausible.Tie as tie
+use Rattle.questions.proofs.plausible.Statement.{statement}
+use Rattle.questions.proofs.plausible.Tie as tie
 
 balanced-requires : tie.Need-balanced-requires
 balanced-requires c κs = tt

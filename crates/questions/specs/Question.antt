@@ -34,9 +34,6 @@ pub record Plausible (h : Head) (l : Latest) : Type 0 where
   pub latest : LatestOk l
   pub low : h .place < 2 → h .pending ≡ h .place
   pub opened : 2 ≤ h .place → Opened h
-
-abbrev pub recordOf : Head → Latest → List ℕ → Reader
-recordOf h l a = record { head = h; latest = l; bytes = a }
 
 -- a record of a reader
 pub record Valid (r : Reader) : Type 0 where

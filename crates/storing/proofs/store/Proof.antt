@@ -8,11 +8,12 @@ use denote.Ref.{now}
 use Rattle.octets.specs.Placing.{placed}
 use Rattle.line.specs.Record.{Kept}
 use Rattle.line.specs.Record.Kept.{k43, k46, k4A, k4B, kEB}
-use Rattle.latest.specs.Latest.{latestOf, sizeFor, storedOf}
+use Rattle.latest.specs.Latest.{latestOf}
+use Rattle.storing.specs.Stored.{sizeFor, storedOf}
 use Rattle.latest.specs.declared.Latest.{Latest}
-use Rattle.latest.proofs.Storing.{take-own, filled, none-stored, other, store-43, store-46, store-4A, store-4B, store-EB}
-use Rattle.latest.proofs.store.Statement.{statement}
-use Rattle.latest.proofs.store.Tie as tie
+use Rattle.storing.proofs.Storing.{take-own, filled, none-stored, other, store-43, store-46, store-4A, store-4B, store-EB}
+use Rattle.storing.proofs.store.Statement.{statement}
+use Rattle.storing.proofs.store.Tie as tie
 
 -- data of a kind's size, the first len bytes, and what an array of that size holds after them
 module _ (id k n len : ℕ) (d : List ℕ) (e : id ≡ k) (fits : length (take len d) ≡ sizeFor id) (is : sizeFor k ≡ n) where

@@ -1,0 +1,105 @@
+// Questions 1 to 3: whether a call can use a record.
+use latest::Latest;
+use record::Head;
+use record::Reader;
+ghost use mathlib.Core.Path.{_≡_};
+ghost use Prim.Native.Nat.{_+_, _≤_};
+ghost use lib.ListN.{length, take};
+ghost use Rattle.stuffing.specs.Stuffing.{dles};
+ghost use Rattle.latest.specs.Deciding.{Decides};
+ghost use Rattle.record.specs.View.{recordOf};
+ghost use Rattle.questions.specs.Question.{Usable, Opened, Plausible, Questions};
+
+// Question 2, by its clauses.
+
+// An identifier that is no service code.
+fn usable(id: u8) -> bool
+    ensures { λ r. ⌜ Decides (Usable id) r ⌝ }
+{
+    match id {
+        Reader::ETX | Reader::DLE | Reader::SUM => false,
+        0..=2 | 4..=15 | 17..=254 => true,
+    }
+}
+
+// An open frame's place, identifier and length.
+fn open(h: Head) -> bool
+    ensures { λ r. ⌜ Decides (Opened h) r ⌝ }
+{
+    if 8 <= h.place {
+        return false;
+    }
+    if 1024 < h.len {
+        return false;
+    }
+    if h.mode == 0 {
+        if 4 <= h.place {
+            return false;
+        }
+        return usable(h.id);
+    }
+    usable(h.id)
+}
+
+// Whether fed is the sum of the other four counts, which may be wider than each.
+fn balanced(h: Head) -> bool
+    ensures { λ r. ⌜ Decides (h .fed ≡ h .accepted + h .refused + h .outside + h .pending) r ⌝ }
+{
+    let sum = h.accepted as u64 + h.refused as u64 + h.outside as u64 + h.pending as u64;
+    if h.fed as u64 == sum { true } else { false }
+}
+
+// The pending bytes of an open frame: its place, its data and each DLE among them once more.
+fn pending_of(h: Head, d: &[u8]) -> usize
+    requires { ⌜ (h .len ≤ 1024) × (length (now d) ≡ 1024) ⌝ }
+    ensures { λ r. ⌜ r ≡ h .place + (h .len + dles (take (h .len) (now (d .entry)))) ⌝ }
+{
+    let len = h.len;
+    h.place as usize + (len + stuffing::count_dle(&d[..len]))
+}
+
+// Question 2, but for the pending bytes of an open frame.
+fn plausible(h: Head, l: Latest) -> bool
+    ensures { λ r. ⌜ Decides (Plausible h l) r ⌝ }
+{
+    if !balanced(h) {
+        return false;
+    }
+    if !latest::acceptable(l) {
+        return false;
+    }
+    if h.place < 2 {
+        if h.pending == h.place as u32 {
+            return true;
+        }
+        return false;
+    }
+    open(h)
+}
+
+// Questions 1 to 3, in order, of a call that offers n bytes to a record of these parts: the number of the first that refuses, or 0.
+// An array that is not 1,024 bytes long is no record's: 2.
+pub fn question(h: Head, l: Latest, d: &[u8], n: usize) -> u8
+    ensures { λ v. ⌜ Questions (recordOf h l (now (d .entry))) n v ⌝ }
+{
+    if 2 <= h.mode {
+        return 1;
+    }
+    if d.len() != 1024 {
+        return 2;
+    }
+    if !plausible(h, l) {
+        return 2;
+    }
+    if 2 <= h.place {
+        if h.pending as usize != pending_of(h, d) {
+            return 2;
+        }
+    }
+    if h.fed >= Reader::LIMIT {
+        if 0 < n {
+            return 3;
+        }
+    }
+    0
+}
