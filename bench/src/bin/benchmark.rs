@@ -19,7 +19,7 @@ type Fill = fn(&mut Random, u8, &mut Vec<u8>);
 fn main() {
     let mut arguments = std::env::args().skip(1);
     let bytes = number(arguments.next(), 1_000_000);
-    let repetitions = number(arguments.next(), 41);
+    let repetitions = number(arguments.next(), 201);
 
     let inputs: [(&str, Fill); 3] = [
         ("frames of about 35 bytes", short_frame),
