@@ -1,12 +1,20 @@
 -- `list_chunk`: each turn takes a byte or is the last.
-use Prim.Native.Nat.{_-_, _≤_}
-use mathlib.Core.Path.{_≡_}
+use mathlib.Core.List.{List}
+use Prim.Native.Nat.{ℕ, _+_, _-_, _≤_}
+use mathlib.Core.Path.{_≡_, _∙_}
 use native.Mathlib.Omega.{arith}
-use lib.ListN.{length, drop, length-drop}
+use lib.ListN.{length, take, drop, length-drop}
 use lib.Seq.{length-take-le}
 use borrow.Author.Needs.{needs}
 use Rattle.liston.proofs.list_chunk.Statement.{statement}
 use Rattle.liston.proofs.list_chunk.Tie as tie
+
+-- bytes taken of the rest of a slice are within it
+within : (s : List ℕ) (at n : ℕ) → at ≤ length s → n ≤ length (take (length s - at) (drop at s)) → at + n ≤ length s
+within s at n l q =
+    let d = length-drop at s in
+    let t = length-take-le (length s - at) (drop at s) (omega arith) in
+    omega (arith, q)
 
 abbrev Inv-loop : tie.InvT-loop
 Inv-loop s lines₀ p₀ at₀ lines p at = (at ≤ length s) × (length lines ≡ length lines₀)
@@ -44,26 +52,32 @@ same-length c = search needs
 returns : tie.Need-returns Inv-loop μ-loop
 returns c = search needs
 
-add-at : tie.Need-add-at Inv-loop μ-loop
-add-at c =
-    let p = c .before .before .before .before .before .before .before in
-    let l = p .before .before .before .before in
-    let s = l .before .before .before .args .s .now in
-    let n = length-drop (l .loop .at) s in
-    let m = length-take-le (length s - l .loop .at) (drop (l .loop .at) s) (omega arith) in
-    omega (arith, p .list-part .ensures .1 .0, l .loop .inv .0, l .before .before .shared-slice-known .given 0)
-
-loop-less : tie.Need-loop-less Inv-loop μ-loop
-loop-less c = search needs
-
-loop-again : tie.Need-loop-again Inv-loop μ-loop
-loop-again c = search needs
-
 same-length-2 : tie.Need-same-length-2 Inv-loop μ-loop
 same-length-2 c = search needs
 
 returns-2 : tie.Need-returns-2 Inv-loop μ-loop
 returns-2 c = search needs
+
+add-at : tie.Need-add-at Inv-loop μ-loop
+add-at c =
+    let p = c .before .before .before .before .before .before .before .before in
+    let l = p .before .before .before .before in
+    omega (arith, within (l .before .before .before .args .s .now) (l .loop .at) _ (l .loop .inv .0) (p .list-part .ensures .1 .0), l .before .before .shared-slice-known .given 0)
+
+loop-less : tie.Need-loop-less Inv-loop μ-loop
+loop-less c = search needs
+
+loop-again : tie.Need-loop-again Inv-loop μ-loop
+loop-again c =
+    let p = c .before .before .before .before .before .before .before .before in
+    let l = p .before .before .before .before in
+    (within (l .before .before .before .args .s .now) (l .loop .at) _ (l .loop .inv .0) (p .list-part .ensures .1 .0), c .before .before .before .before .before .before .before .lines .given ∙ l .loop .inv .1)
+
+same-length-3 : tie.Need-same-length-3 Inv-loop μ-loop
+same-length-3 c = search needs
+
+returns-3 : tie.Need-returns-3 Inv-loop μ-loop
+returns-3 c = search needs
 
 pub list-chunk-spec : {M : Type 1} → statement M
 list-chunk-spec =
@@ -81,8 +95,10 @@ list-chunk-spec =
     write-all-requires
     same-length
     returns
+    same-length-2
+    returns-2
     add-at
     loop-less
     loop-again
-    same-length-2
-    returns-2)
+    same-length-3
+    returns-3)
