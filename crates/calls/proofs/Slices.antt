@@ -4,8 +4,8 @@ use mathlib.Core.List.{List, [], _∷_}
 use mathlib.Core.Path.{_≡_, refl, sym, ap, _∙_, subst, subst⁻¹}
 use Prim.Native.Nat.{ℕ, _+_, _≤_, _<_}
 use native.Mathlib.Omega.{arith}
-use borrow.Author.Tests.{leb-true, leb-false, ltb-true, ltb-false}
-use lib.Dec.{leb, ltb}
+use borrow.Author.Tests.{ltb-true}
+use lib.Dec.{ltb}
 use lib.ListN.{length, take}
 use lib.Seq.{length-take-le}
 use Rattle.line.specs.Table.{Event as Said}
@@ -13,9 +13,10 @@ use Rattle.line.specs.Table.Event.{nothing, message, refusal}
 use Rattle.line.specs.Record.{Rec, Possible, Result, limit, eventOf, stepped, orStop, oneMore, walk}
 use Rattle.line.specs.Steps.{Steps as Seen}
 use Rattle.line.proofs.Mirror.{keeps-possible}
-use Rattle.line.proofs.SliceSteps.{possible-stable, slice-steps-only, walk-fits}
+use Rattle.line.proofs.SliceSteps.{slice-steps-only, walk-fits}
 use Rattle.record.specs.View.{view, partsOf, shown}
 use Rattle.reader.specs.Posts.{FeedPost}
+use Rattle.reader.proofs.Taking.{low, possible, room, passed}
 use Rattle.calls.specs.Calls.{Steps}
 use Rattle.calls.specs.Calls.Steps.{last, more}
 use Rattle.record.specs.declared.Reader.{Reader}
@@ -57,32 +58,14 @@ lift-steps (more {r = r} {b = b} {bs = bs} {x = x} y p s) g q l =
     (let f : y .reader .head .fed ≡ r .head .fed + 1 = ap (λ (v : Rec). v .fed) (w .0) in omega arith) in
     record { event = u .event; said = u .said; steps = Seen.more (step-seen r b y (eventOf (view r) b) p (w .1)) (u .steps) }
 
--- a slice call that took a byte passed questions 1 to 3
-module _ (r : Reader) (bs : List ℕ) (x : Fed) (q : FeedPost r bs x) (h : 0 < x .taken) where
-  low : r .head .mode ≤ 1
-  low = by (leb (r .head .mode) 1) refl
-    where
-      by : (t : Bool) → leb (r .head .mode) 1 ≡ t → r .head .mode ≤ 1
-      by true e = leb-true (r .head .mode) 1 e
-      by false e = absurd (let z : ⊥ = omega (arith, q .one (leb-false (r .head .mode) 1 e) .2) in z)
-
-  possible : Possible (view r)
-  possible = possible-stable (view r) (λ f. let z : ⊥ = omega (arith, q .two low f .2) in z)
-
-  room : 0 < length bs → r .head .fed < limit
-  room o = by (ltb (r .head .fed) limit) refl
-    where
-      by : (t : Bool) → ltb (r .head .fed) limit ≡ t → r .head .fed < limit
-      by true e = ltb-true (r .head .fed) limit e
-      by false e = absurd (let z : ⊥ = omega (arith, q .three low possible o (ltb-false (r .head .fed) limit e) .2) in z)
-
-  pub slice-steps : (y : Stepped) → Steps r (take (x .taken) bs) y
-      → (view (y .reader) ≡ view (x .reader)) × (partsOf (y .answer) ≡ partsOf (x .answer))
-  slice-steps y s =
-      let w = q .rest low possible room in
-      let fit = walk-fits bs (view r) in
-      let some : 0 < length bs = omega (arith, w .2) in
-      let n : length (take (x .taken) bs) ≡ x .taken = length-take-le (x .taken) bs (omega (arith, w .2)) in
-      let u = lift-steps s low possible (omega (arith, walk-limit bs (view r) (omega (arith, room some)), w .2)) in
-      let v = slice-steps-only (view r) bs (feed-seen r bs x (walk (view r) bs .answer) q (w .1)) h (u .steps) in
-      (v .0, u .said ∙ ap shown (v .1) ∙ sym (w .1))
+pub slice-steps : (r : Reader) (bs : List ℕ) (x : Fed) → FeedPost r bs x → 0 < x .taken → (y : Stepped) → Steps r (take (x .taken) bs) y
+    → (view (y .reader) ≡ view (x .reader)) × (partsOf (y .answer) ≡ partsOf (x .answer))
+slice-steps r bs x q h y s =
+    let w = passed r bs x q h in
+    let fit = walk-fits bs (view r) in
+    let some : 0 < length bs = omega (arith, w .2) in
+    let n : length (take (x .taken) bs) ≡ x .taken = length-take-le (x .taken) bs (omega (arith, w .2)) in
+    let u = lift-steps s (low r bs x q h) (possible r bs x q h)
+    (omega (arith, walk-limit bs (view r) (omega (arith, room r bs x q h some)), w .2)) in
+    let v = slice-steps-only (view r) bs (feed-seen r bs x (walk (view r) bs .answer) q (w .1)) h (u .steps) in
+    (v .0, u .said ∙ ap shown (v .1) ∙ sym (w .1))

@@ -20,7 +20,8 @@ use Rattle.reader.specs.Posts.{FeedPost}
 use Rattle.lister.specs.Counting.{one, raised, countShown}
 use Rattle.lister.specs.Posts.{CountPost}
 use Rattle.lister.proofs.PieceLaws.{walk-mode, walk-possible}
-use Rattle.lister.proofs.FeedLaws.{passed, taken-fits}
+use Rattle.reader.proofs.Taking.{passed}
+use Rattle.lister.proofs.FeedLaws.{taken-fits}
 
 module _ (r : Rec) (b : ℕ) (bs : List ℕ) where
   abbrev rest : Result

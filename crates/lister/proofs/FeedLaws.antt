@@ -4,17 +4,18 @@ use mathlib.Core.List.{List, [], _∷_, _++_}
 use mathlib.Core.Path.{_≡_, refl, sym, ap, _∙_, subst, subst⁻¹}
 use Prim.Native.Nat.{ℕ, _+_, _-_, _≤_, _<_}
 use native.Mathlib.Omega.{arith}
-use borrow.Author.Tests.{eqb-true, eqb-false, leb-true, leb-false, ltb-true, ltb-false}
-use lib.Dec.{eqb, leb, ltb}
+use borrow.Author.Tests.{eqb-true, eqb-false, ltb-true, ltb-false}
+use lib.Dec.{eqb, ltb}
 use lib.ListN.{length, drop}
 use Rattle.line.specs.Table.{Event as Said}
 use Rattle.line.specs.Table.Event.{nothing, message, refusal}
 use Rattle.line.specs.Record.{Rec, Possible, Asked, limit, walk}
-use Rattle.line.proofs.SliceSteps.{possible-stable, walk-fits}
+use Rattle.line.proofs.SliceSteps.{walk-fits}
 use Rattle.record.specs.declared.Reader.{Reader}
 use Rattle.record.specs.declared.Fed.{Fed}
 use Rattle.record.specs.View.{Parts, view, partsOf, shown}
 use Rattle.reader.specs.Posts.{FeedPost}
+use Rattle.reader.proofs.Taking.{passed}
 use Rattle.lister.specs.Listing.{lineOf, longest, Piece, piece}
 use Rattle.lister.specs.Posts.{numberOf, lineShown}
 use Rattle.lister.proofs.PieceLaws.{walk-mode, walk-possible, walk-fed, walk-some, ahead, rest, piece-full, piece-limit, piece-walk}
@@ -38,36 +39,15 @@ Out r s room g v n t =
     Asked (view r) ⊥ (λ w. (g ≡ r) × (v ≡ w) × (n ≡ 0) × (t ≡ []))
     (let p = piece room (view r) s in (view g ≡ p .after) × (v ≡ p .refusal) × (n ≡ p .taken) × (t ≡ p .lines))
 
--- a slice call that took a byte passed questions 1 to 3
+-- where a call took a byte there was something to take, and fed is past 0
 module _ (r : Reader) (l : List ℕ) (x : Fed) (q : FeedPost r l x) (h : 0 < x .taken) where
-  low : r .head .mode ≤ 1
-  low = by (leb (r .head .mode) 1) refl
-    where
-      by : (t : Bool) → leb (r .head .mode) 1 ≡ t → r .head .mode ≤ 1
-      by true e = leb-true (r .head .mode) 1 e
-      by false e = absurd (let z : ⊥ = omega (arith, q .one (leb-false (r .head .mode) 1 e) .2) in z)
-
-  possible : Possible (view r)
-  possible = possible-stable (view r) (λ f. let z : ⊥ = omega (arith, q .two low f .2) in z)
-
-  room : 0 < length l → r .head .fed < limit
-  room o = by (ltb (r .head .fed) limit) refl
-    where
-      by : (t : Bool) → ltb (r .head .fed) limit ≡ t → r .head .fed < limit
-      by true e = ltb-true (r .head .fed) limit e
-      by false e = absurd (let z : ⊥ = omega (arith, q .three low possible o (ltb-false (r .head .fed) limit e) .2) in z)
-
-  pub passed : (view (x .reader) ≡ walk (view r) l .after)
-      × (partsOf (x .answer) ≡ shown (walk (view r) l .answer))
-      × (x .taken ≡ walk (view r) l .taken)
-  passed = q .rest low possible room
-
-  -- there was something to take, and fed is past 0
   pub taken-within : x .taken ≤ length l
-  taken-within = omega (arith, passed .2, walk-fits l (view r))
+  taken-within = omega (arith, passed r l x q h .2, walk-fits l (view r))
 
   pub fed-some : 0 < x .reader .head .fed
-  fed-some = omega (arith, ap (λ (v : Rec). v .fed) (passed .0), walk-fed l (view r), passed .2)
+  fed-some =
+      let w = passed r l x q h in
+      omega (arith, ap (λ (v : Rec). v .fed) (w .0), walk-fed l (view r), w .2)
 
 pub taken-fits : (r : Reader) (l : List ℕ) (x : Fed) → FeedPost r l x → x .taken ≤ length l
 taken-fits r l x q = by (eqb (x .taken) 0) refl

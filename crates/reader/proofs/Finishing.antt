@@ -19,10 +19,10 @@ use Rattle.line.specs.Record.Place.{at as on}
 use Rattle.record.specs.View.{placeOf, dataOf}
 use Rattle.record.proofs.Data.{data-take}
 use Rattle.framing.specs.Moving.{see, closedBy, ended, verdictOf, baseOf}
-use Rattle.reader.specs.Closing.{headWith, concludedBy, storedBy, seeHead, Finishes}
+use Rattle.reader.specs.Closing.{headWith, resumed, reopenedBy, concludedBy, storedBy, seeHead, Finishes}
 use Rattle.record.specs.declared.Head.{Head}
 use Rattle.framing.specs.declared.Moving.{Moving}
-use Rattle.record.specs.declared.Event.the-variants.{Nothing, Message, Refusal}
+use Rattle.record.specs.declared.Event.the-variants.{Message}
 
 -- where questions 9 to 12 are yes, 10 to 12 are
 judge-accepts : (m : Mode) (id : ℕ) (d : List ℕ) (c1 c2 : ℕ) → judge m id d c1 c2 ≡ 0 → Acceptable id d
@@ -38,7 +38,7 @@ not-kept e = let z : _≡_ {A = ℕ} 0 1 = cc in absurd (omega arith)
 
 module _ (h : Head) (m : Moving) (at : ℕ) (a : List ℕ) (l : Kept → Option (List ℕ)) (short : m .len ≤ 1024) (whole : length a ≡ 1024) where
   pub finish-quiet : Finishes l (record { after = see (h .mode) (baseOf h l) m a (h .fed + at); event = nothing }) a
-      (record { head = headWith h m at (m .place) (m .id) (m .len) (m .pending); event = Nothing; id = 0; len = 0; closed = 0; keep = false })
+      (resumed h m at)
   unfolding dataOf
   finish-quiet =
       record {
@@ -68,14 +68,7 @@ module _ (h : Head) (m : Moving) (at : ℕ) (a : List ℕ) (l : Kept → Option 
 
   pub finish-refused : (v : ℕ)
       → Finishes l (closedBy (h .mode) (baseOf h l) 0 (m .pending) (on W) (m .outside) 0 (h .fed + at) (refusal v (m .id) (m .pending))) a
-      (record {
-        head = record { mode = h .mode; place = 0; id = m .id; c1 = m .c1; c2 = m .c2; len = m .len; accepted = h .accepted; refused = h .refused + m .pending; outside = m .outside; pending = 0; fed = h .fed + at };
-        event = Refusal v;
-        id = m .id;
-        len = 0;
-        closed = m .pending;
-        keep = false;
-      })
+      (concludedBy false h m at v)
   unfolding dataOf placeOf
   finish-refused v =
       record {
@@ -97,14 +90,7 @@ module _ (h : Head) (m : Moving) (at : ℕ) (a : List ℕ) (l : Kept → Option 
 
   pub finish-reopened : (v b : ℕ)
       → Finishes l (closedBy (h .mode) (baseOf h l) 0 (m .pending - 2) (on (F b [])) (m .outside) 2 (h .fed + at) (refusal v (m .id) (m .pending - 2))) a
-      (record {
-        head = record { mode = h .mode; place = 2; id = b; c1 = m .c1; c2 = m .c2; len = 0; accepted = h .accepted; refused = h .refused + (m .pending - 2); outside = m .outside; pending = 2; fed = h .fed + at };
-        event = Refusal v;
-        id = m .id;
-        len = 0;
-        closed = m .pending - 2;
-        keep = false;
-      })
+      (reopenedBy h m b at v)
   unfolding dataOf placeOf
   finish-reopened v b =
       record {
@@ -154,20 +140,4 @@ module _ (h : Head) (m : Moving) (at : ℕ) (a : List ℕ) (l : Kept → Option 
             short = short;
             good = λ z. judge-accepts (modeOf (h .mode)) (m .id) (take (m .len) a) (m .c1) (m .c2) (sym e ∙ eqb-true v 0 q);
           }
-      by false q =
-          record {
-            after = λ i.
-                record {
-                  mode = h .mode;
-                  place = on W;
-                  fed = h .fed + at;
-                  accepted = sym (add-zero (h .accepted)) i;
-                  refused = h .refused + m .pending;
-                  outside = m .outside;
-                  pending = 0;
-                  latest = l;
-                };
-            said = refl;
-            short = omega arith;
-            good = λ z. not-kept z;
-          }
+      by false q = finish-refused v
