@@ -28,7 +28,7 @@ fn carrier_byte(system: u8, b: u8) -> bool
     b == 0xFF
 }
 
-// The entry of 52h at the start of a slice.
+// The entry of 52h at the start of a slice. Lent seven bytes exactly, it has no end to look for.
 fn in_entry(e: &[u8]) -> bool
     ensures { λ r. ⌜ r ≡ entry (now (e .entry)) ⌝ }
 {
@@ -45,7 +45,7 @@ pub fn in_52(body: &[u8]) -> bool
     let mut i: usize = 0;
     while i < n {
         let at = 7 * i;
-        if !in_entry(&body[at..]) {
+        if !in_entry(&body[at..at + 7]) {
             return false;
         }
         i += 1;

@@ -1,14 +1,14 @@
 -- `in_52` meets its contract: the entries passed are in range.
-use mathlib.Core.Path.{_≡_, sym, ap, _∙_}
+use mathlib.Core.Path.{_≡_, refl, sym, ap, _∙_}
 use mathlib.Core.Bool.{Bool, true}
-use mathlib.Core.List.{List}
-use Prim.Native.Nat.{ℕ, _*_, _/_, _-_, _≤_, _<_}
+use mathlib.Core.List.{List, [], _∷_}
+use Prim.Native.Nat.{ℕ, _+_, _*_, _/_, _-_, _≤_, _<_}
 use native.Mathlib.Omega.{arith}
 use borrow.Author.Count.{below-none, below-more}
 use borrow.Author.Needs.{needs}
 use borrow.Author.Tests.{not-true, not-false}
-use lib.ListN.{length, take, drop, length-drop}
-use lib.Seq.{take-all}
+use lib.ListN.{length, take, drop}
+use Rattle.numbers.proofs.NumberLaws.{number-in}
 use Rattle.limits.specs.Ranges.{entry}
 use Rattle.limits.proofs.CountLaws.{all-of, all-fails}
 use Rattle.range_views.proofs.in_52.Statement.{statement}
@@ -23,18 +23,35 @@ Inv-loop body n i₀ i = (i ≤ n) × ((k : ℕ) → k < i → entryAt body k �
 abbrev μ-loop : tie.MeasureT-loop
 μ-loop body n i₀ i = n - i
 
-rest : (d : List ℕ) (k : ℕ) → take (length d - k) (drop k d) ≡ drop k d
-rest d k = take-all (length d - k) (drop k d) (rw length-drop (omega arith))
+-- an entry is its first seven bytes
+first-seven : (l : List ℕ) → entry (take 7 l) ≡ entry l
+first-seven [] = refl
+first-seven (a ∷ []) = refl
+first-seven (a ∷ b ∷ []) = refl
+first-seven (a ∷ b ∷ c ∷ []) = refl
+first-seven (a ∷ b ∷ c ∷ d ∷ []) = refl
+first-seven (a ∷ b ∷ c ∷ d ∷ e ∷ []) = refl
+first-seven (a ∷ b ∷ c ∷ d ∷ e ∷ f ∷ []) = refl
+first-seven (a ∷ b ∷ c ∷ d ∷ e ∷ f ∷ g ∷ l) =
+    rw (number-in (a ∷ b ∷ c ∷ d ∷ e ∷ f ∷ g ∷ []) 4 2 (omega arith), number-in (a ∷ b ∷ c ∷ d ∷ e ∷ f ∷ g ∷ l) 4 2 (omega arith))
 
 entry-is : (c : tie.After-in-entry Inv-loop μ-loop)
     → c .in-entry .result ≡ entryAt (c .before .before .before .before .before .args .body .now) (c .before .before .before .loop .i)
-entry-is c = c .in-entry .ensures ∙ ap entry (rest (c .before .before .before .before .before .args .body .now) (7 * c .before .before .before .loop .i))
+entry-is c =
+    let l = c .before .before .before in
+    let d = l .before .before .args .body .now in
+    let k = 7 * l .loop .i in
+    let n : k + 7 - k ≡ 7 = omega arith in
+    c .in-entry .ensures ∙ ap (λ j. entry (take j (drop k d))) n ∙ first-seven (drop k d)
 
 loop-holds : tie.Need-loop-holds Inv-loop μ-loop
 loop-holds c = (search needs, below-none _)
 
 mul-at : tie.Need-mul-at Inv-loop μ-loop
 mul-at c = omega arith
+
+add-in-entry : tie.Need-add-in-entry Inv-loop μ-loop
+add-in-entry c = omega arith
 
 sub-in-entry : tie.Need-sub-in-entry Inv-loop μ-loop
 sub-in-entry c = omega arith
@@ -82,6 +99,7 @@ in-52-spec =
     μ-loop
     loop-holds
     mul-at
+    add-in-entry
     sub-in-entry
     part-in-entry-start
     part-in-entry-end
