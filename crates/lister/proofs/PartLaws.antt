@@ -24,6 +24,10 @@ use Rattle.lister.proofs.PieceLaws.{text-piece, piece-mode, piece-possi
 pub rest-of : (s : List ℕ) (at : ℕ) → take (length s - at) (drop at s) ≡ drop at s
 rest-of s at = take-all (length s - at) (drop at s) (omega (arith, length-drop at s))
 
+-- bytes taken of the rest of a slice are within it
+pub taken-of-rest : (s : List ℕ) (at n : ℕ) → at ≤ length s → n ≤ length (take (length s - at) (drop at s)) → at + n ≤ length s
+taken-of-rest s at n w f = omega (arith, ap length (rest-of s at), length-drop at s)
+
 -- one call, on a reader that questions 1 and 2 let pass
 module _ (r : Reader) (s b : List ℕ) (x : Part) (b′ : List ℕ) (q : PartPost r s b x b′) (c : Counts (x .length) b′) (g : Good r) where
   abbrev p : Piece
@@ -62,7 +66,7 @@ pub called : (g : Reader) (s : List ℕ) (at : ℕ) (b : List ℕ) (x : Part) (b
 called g s at b x b′ h k w q f c =
     record {
       good = part-good g d b x b′ q′ c h;
-      within = omega (arith, ap length (rest-of s at), length-drop at s);
+      within = taken-of-rest s at (x .taken) w f;
       counts = c .1;
       whole =
           text-piece d (length b) (view g)

@@ -8,7 +8,7 @@ struct Chunk {
     written: bool,
 }
 
-// Prints the lines of a chunk, up to a write that fails. What is left over is a byte that can't be counted.
+// Prints the lines of a chunk, up to a write that fails. Where all are written, what is left over is a byte that can't be counted.
 fn list_chunk(r: Reader, s: &[u8], lines: &mut [u8]) -> Chunk {
     let mut p = Part {
         reader: r,
@@ -40,7 +40,7 @@ fn list_chunk(r: Reader, s: &[u8], lines: &mut [u8]) -> Chunk {
     }
 }
 
-// A write failed. The total, which would be the last line, is not there either.
+// A write failed: the listing does not end with the total, or not with all of it.
 fn say_cut() {
     io::write_all(2, b"The listing is cut: it could not be written.\n");
 }
