@@ -15,9 +15,10 @@ use Rattle.line.specs.Steps.{Steps as Seen}
 use Rattle.line.proofs.Mirror.{keeps-possible}
 use Rattle.line.proofs.SliceSteps.{slice-steps-only, walk-fits}
 use Rattle.record.specs.View.{view, partsOf, shown}
+use Rattle.record.proofs.Answers.{are-shown}
 use Rattle.reader.specs.Posts.{FeedPost}
 use Rattle.reader.proofs.Taking.{low, possible, room, passed}
-use Rattle.calls.specs.Calls.{Steps}
+use Rattle.calls.specs.Calls.{Steps, answered}
 use Rattle.calls.specs.Calls.Steps.{last, more}
 use Rattle.record.specs.declared.Reader.{Reader}
 use Rattle.calls.specs.declared.Stepped.{Stepped}
@@ -43,20 +44,18 @@ walk-limit (b ∷ bs) v h = by (ltb (v .fed) limit) refl (eventOf v b) (λ l. wa
 
 -- single steps, seen through the view
 record Lifted (r : Reader) (bs : List ℕ) (y : Stepped) : Type 0 where
-  event : Said
-  said : partsOf (y .answer) ≡ shown event
-  steps : Seen (view r) bs (view (y .reader)) event
+  parts : partsOf (y .answer) ≡ shown (answered (y .answer))
+  steps : Seen (view r) bs (view (y .reader)) (answered (y .answer))
 
 lift-steps : {r : Reader} {bs : List ℕ} {y : Stepped} → Steps r bs y → r .head .mode ≤ 1 → Possible (view r) → r .head .fed + length bs ≤ limit
     → Lifted r bs y
 lift-steps (last {r = r} {b = b} {x = x} p) g q l =
-    let w = p .rest g q (λ o. omega arith) in
-    record { event = eventOf (view r) b; said = w .1; steps = Seen.last (step-seen r b x (eventOf (view r) b) p (w .1)) }
+    record { parts = are-shown _ (eventOf (view r) b) (p .asked .rest g q (λ o. omega arith) .1); steps = Seen.last (step-seen r b x p) }
 lift-steps (more {r = r} {b = b} {bs = bs} {x = x} y p s) g q l =
-    let w = p .rest g q (λ o. omega arith) in
+    let w = p .asked .rest g q (λ o. omega arith) in
     let u = lift-steps s (rw (ap (λ (v : Rec). v .mode) (w .0)) g) (subst⁻¹ Possible (w .0) (keeps-possible (view r) b q))
     (let f : y .reader .head .fed ≡ r .head .fed + 1 = ap (λ (v : Rec). v .fed) (w .0) in omega arith) in
-    record { event = u .event; said = u .said; steps = Seen.more (step-seen r b y (eventOf (view r) b) p (w .1)) (u .steps) }
+    record { parts = u .parts; steps = Seen.more (step-seen r b y p) (u .steps) }
 
 pub slice-steps : (r : Reader) (bs : List ℕ) (x : Fed) → FeedPost r bs x → 0 < x .taken → (y : Stepped) → Steps r (take (x .taken) bs) y
     → (view (y .reader) ≡ view (x .reader)) × (partsOf (y .answer) ≡ partsOf (x .answer))
@@ -67,5 +66,5 @@ slice-steps r bs x q h y s =
     let n : length (take (x .taken) bs) ≡ x .taken = length-take-le (x .taken) bs (omega (arith, w .2)) in
     let u = lift-steps s (low r bs x q h) (possible r bs x q h)
     (omega (arith, walk-limit bs (view r) (omega (arith, room r bs x q h some)), w .2)) in
-    let v = slice-steps-only (view r) bs (feed-seen r bs x (walk (view r) bs .answer) q (w .1)) h (u .steps) in
-    (v .0, u .said ∙ ap shown (v .1) ∙ sym (w .1))
+    let v = slice-steps-only (view r) bs (feed-seen r bs x q) h (u .steps) in
+    (v .0, u .parts ∙ ap shown (v .1) ∙ sym (are-shown _ (walk (view r) bs .answer) (w .1)))

@@ -8,8 +8,7 @@ use borrow.Author.Tests.{ltb-true, ltb-false, eqb-true, eqb-false}
 use lib.Dec.{eqb, ltb}
 use lib.ListN.{length, take}
 use Rattle.line.specs.Frame.{modeOf}
-use Rattle.line.specs.Record.{Possible, limit, stateOf, walk}
-use Rattle.line.proofs.Mirror.{PlaceOk}
+use Rattle.line.specs.Record.{Possible, limit, stateOf, walk, PlaceOk}
 use Rattle.record.specs.View.{placeOf, dataOf, view}
 use Rattle.latest.specs.Latest.{latestOf}
 use Rattle.framing.specs.Posts.{Ready}

@@ -11,10 +11,10 @@ use lib.Dec.{eqb, ltb}
 use lib.ListN.{length, drop, getD, drop-of-length-le}
 use lib.Seq.{drop-cons}
 use Rattle.line.specs.Frame.{modeOf, classOf}
-use Rattle.line.proofs.Mirror.{PlaceOk, sound}
+use Rattle.line.proofs.Mirror.{sound}
 use Rattle.line.specs.Table.{Event as Said, pending}
 use Rattle.line.specs.Table.Event.{nothing, message, refusal}
-use Rattle.line.specs.Record.{Rec, Result, limit, stateOf, eventOf, stepped, oneMore, orStop, walk}
+use Rattle.line.specs.Record.{Rec, Result, limit, stateOf, eventOf, stepped, oneMore, orStop, walk, PlaceOk}
 use Rattle.record.proofs.Data.{tested}
 use Rattle.framing.specs.Moving.{Base, Out, one, see, placeNow, turned, ended, verdictOf, ahead, onward, Pends, Sound, Fits, Steps, Goes, Ran}
 use Rattle.framing.specs.declared.Moving.{Moving}

@@ -11,8 +11,7 @@ use Rattle.line.specs.Frame.{modeOf, judge, Acceptable}
 use Rattle.line.specs.Table.{Event as Said, pending, verdict}
 use Rattle.line.specs.Table.State.{W, F}
 use Rattle.line.specs.Table.Event.{nothing, message, refusal}
-use Rattle.line.proofs.Mirror.{PlaceOk}
-use Rattle.line.specs.Record.{Rec, Kept, Place, Result, limit, stateOf, update, eventOf, stepped, orStop, walk}
+use Rattle.line.specs.Record.{Rec, Kept, Place, Result, limit, stateOf, update, eventOf, stepped, orStop, walk, PlaceOk}
 use Rattle.line.specs.Record.Place.{at as on}
 use Rattle.record.specs.View.{placeOf, dataOf, shown}
 use Rattle.record.specs.declared.Head.{Head}

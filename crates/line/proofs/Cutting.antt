@@ -22,7 +22,8 @@ use Rattle.line.specs.Pieces.{Piece, bytesIn, joined, closes, pieceOf, c
 use Rattle.line.specs.Pieces.Piece.{outside, accepted, refused}
 use Rattle.line.proofs.Classes.{dle-is, etx-is, sum-is, doubled, stuffed-snoc}
 use Rattle.line.proofs.Account.{cond-both, balanced}
-use Rattle.line.proofs.Mirror.{PlaceOk, W-ok, sound}
+use Rattle.line.proofs.Mirror.{W-ok, sound}
+use Rattle.line.specs.Record.{PlaceOk}
 
 -- the bytes of the open frame
 abbrev pub openBytes : State → List ℕ

@@ -12,13 +12,13 @@ use Rattle.line.specs.Frame.{Mode, modeOf, classOf}
 use Rattle.line.specs.Table.{State, Event, next, after, events}
 use Rattle.line.specs.Table.State.{W}
 use Rattle.line.specs.Table.Event.{nothing, message, refusal}
-use Rattle.line.specs.Record.{Rec, Result, Fresh, limit, walk, fresh, StepPost, FeedPost}
+use Rattle.line.specs.Record.{Rec, Result, Fresh, limit, walk, fresh, StepPost, FeedPost, PlaceOk}
 use Rattle.line.specs.Record.Fresh.{made, refused}
 use Rattle.line.specs.Calls.{Call, History, Trace, taken, offered, told, last, due, ifNothing, number, stepTook, Right, Every}
 use Rattle.line.specs.Calls.Call.{step, feed}
 use Rattle.line.specs.Calls.History.{start, call}
 use Rattle.line.specs.Calls.Trace.{begun, stepped, fed}
-use Rattle.line.proofs.Mirror.{PlaceOk, W-ok, mirror, is-possible, Fine, sound, place-ok}
+use Rattle.line.proofs.Mirror.{W-ok, mirror, is-possible, Fine, sound, place-ok}
 use Rattle.line.proofs.Walking.{heard, told-append, Walked, walked}
 use Rattle.line.proofs.Outcome.{full, outcome, Is, feed-outcome, step-outcome}
 

@@ -13,12 +13,12 @@ use Rattle.line.specs.Frame.{Mode, classOf, frame}
 use Rattle.line.specs.Table.{State, Event, next, after, events, total, accepts}
 use Rattle.line.specs.Table.State.{W}
 use Rattle.line.specs.Table.Event.{nothing, message, refusal}
-use Rattle.line.specs.Record.{Kept, limit, update}
+use Rattle.line.specs.Record.{Kept, limit, update, PlaceOk}
 use Rattle.line.specs.Calls.{History, taken, offered, told, last, due, ifNothing, Right, Every, added, frameLength, Message, line, frames}
 use Rattle.line.specs.Calls.History.{start, call}
 use Rattle.line.proofs.Reading.{usable, events-append, length-events}
 use Rattle.line.proofs.Resync.{after-append, resync}
-use Rattle.line.proofs.Mirror.{PlaceOk, Fine, sound, stood, stood-append, total-append}
+use Rattle.line.proofs.Mirror.{Fine, sound, stood, stood-append, total-append}
 use Rattle.line.proofs.Latest.{stored}
 use Rattle.line.proofs.Walking.{heard, told-append}
 

@@ -18,7 +18,7 @@ use Rattle.line.specs.Frame.Class.{dle, etx, sum, other}
 use Rattle.line.specs.Table.{State, Event, Step, capacity, pending, go, refuse, verdict, ends, join, row, next, after, events, skipped, total, accepts, refuses}
 use Rattle.line.specs.Table.State.{W, WD, F, FD, C0, C1, E, ED}
 use Rattle.line.specs.Table.Event.{nothing, message, refusal}
-use Rattle.line.specs.Record.{Rec, Kept, idOf, Place, byPlace, FromF, Fit, Possible, update, stateOf, stepped}
+use Rattle.line.specs.Record.{Rec, Kept, idOf, Place, ModeOk, IdOk, SizeOk, PlaceOk, Fit, Possible, update, stateOf, stepped}
 use Rattle.line.specs.Record.Kept.{k43, k46, k4A, k4B, kEB}
 use Rattle.line.specs.Record.Place.{at}
 use Rattle.line.proofs.Latest.{update-same, update-other}
@@ -31,21 +31,6 @@ abbrev pub Fine : Mode → Event → Type 0
 Fine m nothing = Unit {0}
 Fine m (message id d n) = Acceptable id d × (n ≡ length (frame m id d))
 Fine m (refusal v id n) = 3 < v
-
--- the clauses of question 2 on the state
-abbrev pub ModeOk : Mode → State → Type 0
-ModeOk m s = byPlace s (Unit {0}) (λ id d. Unit {0}) (λ id d. m ≡ summed)
-
-abbrev pub IdOk : State → Type 0
-IdOk s = FromF (λ id d. classOf id ≡ other) s
-
-abbrev pub SizeOk : State → Type 0
-SizeOk s = FromF (λ id d. length d ≤ capacity) s
-
-pub record PlaceOk (m : Mode) (s : State) : Type 0 where
-  pub mode : ModeOk m s
-  pub identifier : IdOk s
-  pub size : SizeOk s
 
 holds : {m : Mode} {s : State} → ModeOk m s → IdOk s → SizeOk s → PlaceOk m s
 holds a b c = record { mode = a; identifier = b; size = c }

@@ -16,12 +16,12 @@ use Rattle.line.specs.Frame.Class.{dle, etx, sum, other}
 use Rattle.line.specs.Table.{State, Event, capacity, pending}
 use Rattle.line.specs.Table.State.{W, WD, F, FD, C0, C1, E, ED}
 use Rattle.line.specs.Table.Event.{nothing, message, refusal}
-use Rattle.line.specs.Record.{Rec, Place, Possible, Result, Known, Fit, FromF, limit, stateOf, byPlace, stepped, eventOf, orStop, oneMore, walk, StepPost, FeedPost}
+use Rattle.line.specs.Record.{Rec, Place, Possible, Result, Known, Fit, FromF, limit, stateOf, byPlace, stepped, eventOf, orStop, oneMore, walk, StepPost, FeedPost, ModeOk, IdOk, SizeOk}
 use Rattle.line.specs.Record.Place.{at, unknown}
 use Rattle.line.specs.Record.Kept.{k43, k46, k4A, k4B, kEB}
 use Rattle.line.specs.Steps.{Steps}
 use Rattle.line.specs.Steps.Steps.{last, more}
-use Rattle.line.proofs.Mirror.{ModeOk, IdOk, SizeOk, keeps-possible}
+use Rattle.line.proofs.Mirror.{keeps-possible}
 
 -- question 2 is decidable clause by clause: what is not impossible holds
 abbrev Stable : Type 0 → Type 0

@@ -7,7 +7,7 @@ use mathlib.Core.Path.{_≡_}
 use Prim.Native.Nat.{ℕ, suc, _+_, _≤_, _<_}
 use lib.Dec.{eqb, ltb, leb}
 use lib.ListN.{length}
-use Rattle.line.specs.Frame.{modeOf, classOf, Acceptable}
+use Rattle.line.specs.Frame.{Mode, modeOf, classOf, Acceptable}
 use Rattle.line.specs.Frame.Mode.{summed}
 use Rattle.line.specs.Frame.Class.{other}
 use Rattle.line.specs.Table.{State, Event, capacity, byEvent, next, pending, accepts, refuses}
@@ -67,6 +67,21 @@ byPlace (ED id d c1 c2) x f g = g id d
 abbrev pub FromF : (ℕ → List ℕ → Type 0) → State → Type 0
 FromF P s = byPlace s (Unit {0}) P P
 
+-- the clauses of question 2 on a place: none of C0 to ED in mode 0; a usable identifier from F on; data at most 1,024
+abbrev pub ModeOk : Mode → State → Type 0
+ModeOk m s = byPlace s (Unit {0}) (λ id d. Unit {0}) (λ id d. m ≡ summed)
+
+abbrev pub IdOk : State → Type 0
+IdOk s = FromF (λ id d. classOf id ≡ other) s
+
+abbrev pub SizeOk : State → Type 0
+SizeOk s = FromF (λ id d. length d ≤ capacity) s
+
+pub record PlaceOk (m : Mode) (s : State) : Type 0 where
+  pub mode : ModeOk m s
+  pub identifier : IdOk s
+  pub size : SizeOk s
+
 abbrev pub Fit : ℕ → Option (List ℕ) → Type 0
 Fit id none = Unit {0}
 Fit id (some d) = Acceptable id d
@@ -75,12 +90,9 @@ Fit id (some d) = Acceptable id d
 pub record Possible (r : Rec) : Type 0 where
   -- a place above
   pub place : Known (r .place)
-  -- none of C0 to ED in mode 0
-  pub mode : byPlace (stateOf (r .place)) (Unit {0}) (λ id d. Unit {0}) (λ id d. modeOf (r .mode) ≡ summed)
-  -- a usable identifier from F on
-  pub identifier : FromF (λ id d. classOf id ≡ other) (stateOf (r .place))
-  -- data at most 1,024
-  pub size : FromF (λ id d. length d ≤ capacity) (stateOf (r .place))
+  pub mode : ModeOk (modeOf (r .mode)) (stateOf (r .place))
+  pub identifier : IdOk (stateOf (r .place))
+  pub size : SizeOk (stateOf (r .place))
   -- hand exactly the bytes of the open frame (0 in W, 1 in WD)
   pub pending : r .pending ≡ pending (stateOf (r .place))
   -- fed the sum of the other four counts

@@ -76,7 +76,7 @@ count-last r s x q h =
     }
   where
     by : r .head .mode ≤ 1 → Possible (view r) → (t : Bool) → ltb (r .head .fed) limit ≡ t → walk (view r) s .taken ≡ 0
-    by m p true e = sym (q .rest m p (λ o. ltb-true (r .head .fed) limit e) .2) ∙ h
+    by m p true e = sym (q .asked .rest m p (λ o. ltb-true (r .head .fed) limit e) .2) ∙ h
     by m p false e = none-taken s (view r) (ltb-false (r .head .fed) limit e)
 
 -- a call that takes something, and then what is right from where it stopped
@@ -84,8 +84,8 @@ pub count-more : (r : Reader) (s : List ℕ) (x : Fed) → FeedPost r s x → 0 
     → CountPost r s (countShown (x .answer .event) + n)
 count-more r s x q h n o =
     record {
-      one = λ m. absurd (omega (arith, q .one m .2));
-      two = λ m f. absurd (omega (arith, q .two m f .2));
+      one = λ m. absurd (omega (arith, q .asked .one m .2));
+      two = λ m f. absurd (omega (arith, q .asked .two m f .2));
       three = λ m p z f. absurd z;
       rest = λ m p z.
           let u : n ≡ raised (view (x .reader)) (drop (x .taken) s) = o .rest (rw mode-kept m) (kept p) (λ y. absurd y) in

@@ -65,8 +65,8 @@ pub last : (r : Reader) (s : List ℕ) (room : ℕ) (x : Fed) → FeedPost r (of
     → Out r s room (x .reader) (numberOf (x .answer .event)) 0 []
 last r s room x q z =
     record {
-      one = λ m. let w = q .one m in (w .0, ap (λ (p : Parts). numberOf (p .event)) (w .1), refl, refl);
-      two = λ m n. let w = q .two m n in (w .0, ap (λ (p : Parts). numberOf (p .event)) (w .1), refl, refl);
+      one = λ m. let w = q .asked .one m in (w .0, ap (λ (p : Parts). numberOf (p .event)) (w .1), refl, refl);
+      two = λ m n. let w = q .asked .two m n in (w .0, ap (λ (p : Parts). numberOf (p .event)) (w .1), refl, refl);
       three = λ m p o f. absurd o;
       rest = λ m p o. by (ltb room longest) refl s q m p;
     }
@@ -74,16 +74,16 @@ last r s room x q z =
     -- nothing is offered
     none : FeedPost r [] x → r .head .mode ≤ 1 → Possible (view r) → Ends x (record { after = view r; refusal = 0; taken = 0; lines = [] })
     none q m p =
-        let w = q .rest m p (λ o. absurd (omega arith)) in
+        let w = q .asked .rest m p (λ o. absurd (omega arith)) in
         (w .0, ap (λ (p : Parts). numberOf (p .event)) (w .1), refl, refl)
 
     full : (b : ℕ) (bs : List ℕ) (t : Bool) → ltb (r .head .fed) limit ≡ t → ltb room longest ≡ false → FeedPost r (b ∷ bs) x
         → r .head .mode ≤ 1 → Possible (view r) → Ends x (piece room (view r) (b ∷ bs))
     full b bs true e k q m p =
-        let w = q .rest m p (λ o. ltb-true (r .head .fed) limit e) in
+        let w = q .asked .rest m p (λ o. ltb-true (r .head .fed) limit e) in
         absurd (omega (arith, w .2, walk-some b bs (view r) e))
     full b bs false e k q m p =
-        let w = q .three m p (omega arith) (ltb-false (r .head .fed) limit e) in
+        let w = q .asked .three m p (omega arith) (ltb-false (r .head .fed) limit e) in
         subst⁻¹ (Ends x) (piece-limit room (view r) b bs k e) (ap view (w .0), ap (λ (p : Parts). numberOf (p .event)) (w .1), refl, refl)
 
     by : (t : Bool) → ltb room longest ≡ t → (s : List ℕ) → FeedPost r (cond t [] s) x → r .head .mode ≤ 1 → Possible (view r)
@@ -105,8 +105,8 @@ pub more : (r : Reader) (s : List ℕ) (room : ℕ) (x : Fed) → FeedPost r (of
     → Out (x .reader) (drop (x .taken) s) (room - length (lineFrom x)) g v n t → Out r s room g v (x .taken + n) (lineFrom x ++ t)
 more r s room x q h g v n t o =
     record {
-      one = λ m. absurd (omega (arith, q .one m .2));
-      two = λ m f. absurd (omega (arith, q .two m f .2));
+      one = λ m. absurd (omega (arith, q .asked .one m .2));
+      two = λ m f. absurd (omega (arith, q .asked .two m f .2));
       three = λ m p z f. absurd z;
       rest = λ m p z.
           let u = o .rest (rw (mode-kept) m) (kept p) (λ y. absurd y) in (

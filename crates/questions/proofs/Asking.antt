@@ -15,9 +15,8 @@ use Rattle.line.specs.Frame.{Mode, modeOf, classOf}
 use Rattle.line.specs.Frame.Mode.{plain, summed}
 use Rattle.line.specs.Frame.Class.{other}
 use Rattle.line.specs.Table.{pending}
-use Rattle.line.specs.Record.{Place, Known, Fit, Possible, stateOf}
+use Rattle.line.specs.Record.{Place, Known, Fit, Possible, stateOf, PlaceOk}
 use Rattle.line.specs.Record.Place.{unknown}
-use Rattle.line.proofs.Mirror.{PlaceOk}
 use Rattle.record.specs.View.{placeOf, dataOf, view}
 use Rattle.latest.specs.Latest.{perhaps, LatestOk}
 use Rattle.questions.specs.Question.{Opened, Plausible, Held}

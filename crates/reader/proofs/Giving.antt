@@ -86,10 +86,14 @@ pub feeds : (r : Reader) (a s : List ℕ) (x : InPlace) → length (r .bytes) �
     → FeedPost r s (fedOf x a)
 feeds r a s x w p =
     record {
-      one = λ z. by 1 (p .asked .one z) (λ n. absurd (omega arith));
-      two = λ z g. by 2 (p .asked .two z (λ u. g (u .possible))) (λ n. absurd (omega arith));
-      three = λ z q o l. by 3 (p .asked .three z (valid q) o l) (λ n. absurd (omega arith));
-      rest = λ z q o. let y = p .read (p .asked .rest z (valid q) o) in (y .after, y .said, y .taken);
+      asked =
+          record {
+            one = λ z. by 1 (p .asked .one z) (λ n. absurd (omega arith));
+            two = λ z g. by 2 (p .asked .two z (λ u. g (u .possible))) (λ n. absurd (omega arith));
+            three = λ z q o l. by 3 (p .asked .three z (valid q) o l) (λ n. absurd (omega arith));
+            rest = λ z q o. let y = p .read (p .asked .rest z (valid q) o) in (y .after, y .said, y .taken);
+          };
+      array = refl;
     }
   where
     valid : Possible (view r) → Valid r

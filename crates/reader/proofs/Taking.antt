@@ -20,19 +20,19 @@ module _ (r : Reader) (l : List ℕ) (x : Fed) (q : FeedPost r l x) (h : 0 < x .
     where
       by : (t : Bool) → leb (r .head .mode) 1 ≡ t → r .head .mode ≤ 1
       by true e = leb-true (r .head .mode) 1 e
-      by false e = absurd (let z : ⊥ = omega (arith, q .one (leb-false (r .head .mode) 1 e) .2) in z)
+      by false e = absurd (let z : ⊥ = omega (arith, q .asked .one (leb-false (r .head .mode) 1 e) .2) in z)
 
   pub possible : Possible (view r)
-  possible = possible-stable (view r) (λ f. let z : ⊥ = omega (arith, q .two low f .2) in z)
+  possible = possible-stable (view r) (λ f. let z : ⊥ = omega (arith, q .asked .two low f .2) in z)
 
   pub room : 0 < length l → r .head .fed < limit
   room o = by (ltb (r .head .fed) limit) refl
     where
       by : (t : Bool) → ltb (r .head .fed) limit ≡ t → r .head .fed < limit
       by true e = ltb-true (r .head .fed) limit e
-      by false e = absurd (let z : ⊥ = omega (arith, q .three low possible o (ltb-false (r .head .fed) limit e) .2) in z)
+      by false e = absurd (let z : ⊥ = omega (arith, q .asked .three low possible o (ltb-false (r .head .fed) limit e) .2) in z)
 
   pub passed : (view (x .reader) ≡ walk (view r) l .after)
       × (partsOf (x .answer) ≡ shown (walk (view r) l .answer))
       × (x .taken ≡ walk (view r) l .taken)
-  passed = q .rest low possible room
+  passed = q .asked .rest low possible room

@@ -13,10 +13,11 @@ use Rattle.record.specs.declared.Reader.{Reader}
 use Rattle.record.specs.declared.Fed.{Fed}
 use Rattle.reader.specs.declared.InPlace.{InPlace}
 
-abbrev pub FeedPost : Reader → List ℕ → Fed → Type 0
-FeedPost r bs x =
-    Asked (view r) (0 < length bs) (λ v. (x .reader ≡ r) × (partsOf (x .answer) ≡ shown (refusal v 0 0)) × (x .taken ≡ 0))
-    ((view (x .reader) ≡ walk (view r) bs .after) × (partsOf (x .answer) ≡ shown (walk (view r) bs .answer)) × (x .taken ≡ walk (view r) bs .taken))
+pub record FeedPost (r : Reader) (bs : List ℕ) (x : Fed) : Type 0 where
+  pub asked : Asked (view r) (0 < length bs) (λ v. (x .reader ≡ r) × (partsOf (x .answer) ≡ shown (refusal v 0 0)) × (x .taken ≡ 0))
+      ((view (x .reader) ≡ walk (view r) bs .after) × (partsOf (x .answer) ≡ shown (walk (view r) bs .answer)) × (x .taken ≡ walk (view r) bs .taken))
+  -- the answer's array, past its data too, is the record's
+  pub array : x .answer .bytes ≡ x .reader .bytes
 
 -- refused by 1, 2 or 3: the record as it was, and an answer with nothing in it
 pub record Refuses (v : ℕ) (r : Reader) (x : Fed) : Type 0 where

@@ -49,7 +49,7 @@ view r =
       latest = latestOf (r .latest);
     }
 
--- the four parts of an answer: event with number, identifier, data, bytes closed. Bytes of the array past the data are free
+-- the four parts of an answer: event with number, identifier, data, bytes closed
 pub record Parts : Type 0 where
   pub event : Event
   pub id : ℕ
@@ -64,3 +64,12 @@ abbrev pub shown : Said → Parts
 shown nothing = record { event = Nothing; id = 0; body = []; closed = 0 }
 shown (message id d n) = record { event = Message; id = id; body = d; closed = n }
 shown (refusal v id n) = record { event = Refusal v; id = id; body = []; closed = n }
+
+-- the event of the paper that these parts are: its number and values in each case of the answer's enum
+abbrev pub saidBy : Event → ℕ → List ℕ → ℕ → Said
+saidBy Nothing id d n = nothing
+saidBy Message id d n = message id d n
+saidBy (Refusal v) id d n = refusal v id n
+
+abbrev pub said : Parts → Said
+said p = saidBy (p .event) (p .id) (p .body) (p .closed)

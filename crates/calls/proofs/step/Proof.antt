@@ -19,13 +19,17 @@ returns c =
     let x = c .before .before .before .before .args in
     let f = c .before .before .feed .ensures in
     record {
-      one = λ z. let w = f .one z in (w .0, w .1);
-      two = λ z n. let w = f .two z n in (w .0, w .1);
-      three = λ z p o l. let w = f .three z p (omega arith) l in (w .0, w .1);
-      rest = λ z p o.
-          let w = f .rest z p (λ y. o tt) in
-          let s = single (view (x .r)) (x .b) (o tt) in
-          (w .0 ∙ s .after, w .1 ∙ ap shown (s .answer));
+      asked =
+          record {
+            one = λ z. let w = f .asked .one z in (w .0, w .1);
+            two = λ z n. let w = f .asked .two z n in (w .0, w .1);
+            three = λ z p o l. let w = f .asked .three z p (omega arith) l in (w .0, w .1);
+            rest = λ z p o.
+                let w = f .asked .rest z p (λ y. o tt) in
+                let s = single (view (x .r)) (x .b) (o tt) in
+                (w .0 ∙ s .after, w .1 ∙ ap shown (s .answer));
+          };
+      array = f .array;
     }
 
 pub step-spec : {M : Type 1} → statement M

@@ -13,7 +13,7 @@ use Rattle.framing.specs.declared.Moved.{Moved}
 use mathlib.Core.Logic.{inl, inr}
 use Rattle.line.specs.Frame.Mode.{summed}
 use Rattle.line.specs.Table.{refuse}
-use Rattle.line.proofs.Mirror.{ModeOk}
+use Rattle.line.specs.Record.{ModeOk}
 use Rattle.line.proofs.Classes.{class-other}
 use Rattle.framing.proofs.Stepping.{row-at}
 use Rattle.record.proofs.Data.{is-dle, is-etx, is-sum}

@@ -11,7 +11,7 @@ use lib.Seq.{length-take-le}
 use Rattle.line.specs.Frame.{modeOf}
 use Rattle.line.specs.Table.{pending, next, refuse}
 use Rattle.line.specs.Table.State.{FD}
-use Rattle.line.proofs.Mirror.{PlaceOk, IdOk}
+use Rattle.line.specs.Record.{PlaceOk, IdOk}
 use Rattle.record.specs.View.{placeOf}
 use Rattle.framing.specs.Moving.{Sound, Fits, Goes}
 use Rattle.framing.specs.declared.Moving.{Moving}

@@ -9,7 +9,8 @@ use denote.Ref.{now}
 use Rattle.line.specs.Frame.{modeOf}
 use Rattle.line.specs.Table.{pending}
 use Rattle.line.specs.Table.State.{WD}
-use Rattle.line.proofs.Mirror.{PlaceOk, W-ok}
+use Rattle.line.proofs.Mirror.{W-ok}
+use Rattle.line.specs.Record.{PlaceOk}
 use Rattle.record.specs.View.{placeOf}
 use Rattle.framing.specs.Moving.{Pends, Sound, Fits, Goes}
 use Rattle.framing.specs.declared.Moving.{Moving}
