@@ -6,7 +6,7 @@ ghost use lib.Bits.{bitXor};
 ghost use mathlib.Core.List.{List, _∷_};
 ghost use lib.ListN.{length, drop};
 ghost use Rattle.stuffing.specs.Stuffing.{stuffed};
-ghost use Rattle.checksum.specs.Checksum.{shifted, shiftedBy, afterByte, afterBytes, checksum};
+ghost use Rattle.checksum.specs.Checksum.{shifted, shiftedBy, afterByte, afterBytes, checksum, c1Of, c2Of};
 
 // The register one place up: where a 1 leaves at the top, the divisor is taken away.
 fn shift(reg: u16) -> u16
@@ -49,7 +49,7 @@ pub fn after_slice(reg: u16, s: &[u8]) -> u16
 fn pair(b: u8, c: u8) -> u16
     ensures { λ r. ⌜ (r ≡ b * 256 + c) × (b < 256) × (c < 256) ⌝ }
 {
-    b as u16 * 256 + c as u16
+    ((b as u16) << 8) | (c as u16)
 }
 
 // The register after four more bytes, two at a time. What enters is divided: each place of the quotient is a sum of places of it, and
@@ -57,7 +57,7 @@ fn pair(b: u8, c: u8) -> u16
 fn after_four(reg: u16, first: u16, second: u16) -> u16
     ensures { λ r. ⌜ (r ≡ shiftedBy 16 (bitXor (shiftedBy 16 (bitXor reg first)) second)) × (reg < 65536) ⌝ }
 {
-    let x = (reg ^ first) as u32 * 65536 + second as u32;
+    let x = (((reg ^ first) as u32) << 16) | (second as u32);
     let a = (x ^ (x >> 4)) ^ ((x >> 11) ^ (x >> 16));
     let b = a ^ ((a >> 8) ^ (a >> 22));
     let q = b ^ (b >> 16);
@@ -69,7 +69,7 @@ fn after_stuffed(reg: u16, b: u8) -> u16
     ensures { λ r. ⌜ ((t : List ℕ) → afterBytes r (stuffed t) ≡ afterBytes reg (stuffed (b ∷ t))) ⌝ }
 {
     let once = after_byte(reg, b);
-    if b == 0x10 {
+    if b == stuffing::DLE {
         return after_byte(once, b);
     }
     once
@@ -107,4 +107,21 @@ pub fn message(id: u8, body: &[u8]) -> u16
         i = t.at;
     }
     r
+}
+
+// The two bytes of a checksum, as they stand on the line: c1 is the low one.
+pub struct SumBytes {
+    pub c1: u8,
+    pub c2: u8,
+}
+
+// The checksum of a message as the line has it.
+pub fn sum_bytes(id: u8, body: &[u8]) -> SumBytes
+    ensures { λ r. ⌜ (r .c1 ≡ c1Of id (now (body .entry))) × (r .c2 ≡ c2Of id (now (body .entry))) ⌝ }
+{
+    let sum = message(id, body);
+    SumBytes {
+        c1: (sum & 0xFF) as u8,
+        c2: (sum >> 8) as u8,
+    }
 }

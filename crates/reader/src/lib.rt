@@ -46,9 +46,9 @@ fn judge(mode: u8, id: u8, d: &[u8], len: usize, c1: u8, c2: u8) -> u8
     if mode == 0 {
         return kinds::content(id, &d[..len]);
     }
-    let sum = checksum::message(id, &d[..len]);
-    if c1 as u16 == sum % 256 {
-        if c2 as u16 == sum / 256 {
+    let sum = checksum::sum_bytes(id, &d[..len]);
+    if c1 == sum.c1 {
+        if c2 == sum.c2 {
             return kinds::content(id, &d[..len]);
         }
     }

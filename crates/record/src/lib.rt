@@ -54,7 +54,7 @@ pub struct Fed {
 
 impl Reader {
     // The service codes.
-    pub const DLE: u8 = 0x10;
+    pub const DLE: u8 = stuffing::DLE;
 
     pub const ETX: u8 = 0x03;
 

@@ -2,6 +2,9 @@
 ghost use mathlib.Core.Path.{_≡_};
 ghost use Rattle.stuffing.specs.Stuffing.{dles, fourPlain};
 
+// DLE.
+pub const DLE: u8 = 0x10;
+
 // How many of the bytes are 10h, the byte that stuffing doubles.
 pub fn count_dle(s: &[u8]) -> usize
     ensures { λ r. ⌜ r ≡ dles (now (s .entry)) ⌝ }
@@ -9,7 +12,7 @@ pub fn count_dle(s: &[u8]) -> usize
     let mut n: usize = 0;
     let mut i: usize = 0;
     while i < s.len() {
-        if s[i] == 0x10 {
+        if s[i] == DLE {
             n += 1;
         }
         i += 1;
@@ -27,5 +30,5 @@ pub fn four_plain(s: &[u8], at: usize) -> bool
     if s.len() - 4 < at {
         return false;
     }
-    (s[at] != 0x10) & (s[at + 1] != 0x10) & (s[at + 2] != 0x10) & (s[at + 3] != 0x10)
+    (s[at] != DLE) & (s[at + 1] != DLE) & (s[at + 2] != DLE) & (s[at + 3] != DLE)
 }

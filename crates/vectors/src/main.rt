@@ -1,5 +1,6 @@
-// Prints the checksum's published vectors: the register over "123456789", then, a line each, over every single byte but 5Ah, whose
-// entry in Appendix A.3 of the protocol document is misprinted.
+// Prints the checksum's published vectors: the register over "123456789", then, a line each, over every single byte. The stored
+// output is the table printed in Appendix A.3 of the protocol document, but for the entry of 5Ah, which is misprinted there: it is the
+// older edition's.
 
 fn show(register: u16) {
     io::print_hex(1, register as u64, 4);
@@ -8,9 +9,7 @@ fn show(register: u16) {
 
 fn entry(b: u8) {
     let one = [b];
-    if b != 0x5A {
-        show(checksum::after_slice(0, &one));
-    }
+    show(checksum::after_slice(0, &one));
 }
 
 fn main() {

@@ -50,7 +50,7 @@ fn put_data(body: &[u8], buf: &mut [u8], at: usize) -> usize
     to
 }
 
-// Puts what a mode has between data and end, in mode 1 the checksum, and returns the place after it. c1 is the low byte.
+// Puts what a mode has between data and end, in mode 1 the checksum, and returns the place after it.
 fn put_sum(mode: u8, id: u8, body: &[u8], buf: &mut [u8], at: usize) -> usize
     requires { ⌜ at + length (sumField (modeOf mode) id (now body)) ≤ length (now buf) ⌝ }
     ensures { λ r. ⌜ (r ≡ at + length (sumField (modeOf mode) id (now (body .entry))))
@@ -59,10 +59,8 @@ fn put_sum(mode: u8, id: u8, body: &[u8], buf: &mut [u8], at: usize) -> usize
     if mode == 0 {
         return at;
     }
-    let sum = checksum::message(id, body);
-    let c1 = (sum % 256) as u8;
-    let c2 = (sum / 256) as u8;
-    let field = [Reader::DLE, Reader::SUM, c1, c2];
+    let sum = checksum::sum_bytes(id, body);
+    let field = [Reader::DLE, Reader::SUM, sum.c1, sum.c2];
     octets::put(&field, buf, at);
     at + 4
 }

@@ -1,7 +1,6 @@
--- `put_sum` meets its contract: nothing in mode 0, and in mode 1 what `message` and `put` say.
+-- `put_sum` meets its contract: nothing in mode 0, and in mode 1 what `sum_bytes` and `put` say.
 use mathlib.Core.Path.{refl, sym, ap, _∙_}
 use mathlib.Core.List.{[], _∷_}
-use Prim.Native.Nat.{ℕ, _/_, _%_}
 use native.Mathlib.Nat.{add-zero}
 use borrow.Author.Needs.{needs}
 use Rattle.stuffing.specs.Stuffing.{DLE}
@@ -17,14 +16,8 @@ returns c =
     let a = c .before .before .before .args in
     rw (c .if1 .taken) (sym (add-zero (a .at)), sym (placed-nil (a .buf .now) (a .at)))
 
-message-requires : tie.Need-message-requires
-message-requires c κs = tt
-
-cast-c1 : tie.Need-cast-c1
-cast-c1 c = search needs
-
-cast-c2 : tie.Need-cast-c2
-cast-c2 c = search needs
+sum-bytes-requires : tie.Need-sum-bytes-requires
+sum-bytes-requires c κs = tt
 
 slice-aggregate-put : tie.Need-slice-aggregate-put
 slice-aggregate-put c = search needs
@@ -45,7 +38,7 @@ returns-2 c =
     let a = m .before .before .before .before .args in
     rw (not-plain (a .mode) (m .before .if1 .left)) (
       refl,
-      p .put .ensures .1 ∙ ap (λ (k : ℕ). placed (a .buf .now) (a .at) (DLE ∷ SUM ∷ k % 256 ∷ k / 256 ∷ [])) (m .message .ensures),
+      p .put .ensures .1 ∙ (λ i. placed (a .buf .now) (a .at) (DLE ∷ SUM ∷ m .sum-bytes .ensures .0 i ∷ m .sum-bytes .ensures .1 i ∷ [])),
     )
 
 pub put-sum-spec : {M : Type 1} → statement M
@@ -53,9 +46,7 @@ put-sum-spec =
     tie.close
     (tie.spec
     returns
-    message-requires
-    cast-c1
-    cast-c2
+    sum-bytes-requires
     slice-aggregate-put
     put-requires
     add-result
