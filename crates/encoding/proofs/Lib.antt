@@ -1,3 +1,4 @@
 pub mod WrittenLaws
 pub mod AcceptedLaws
 pub mod EntryLaws
+pub mod Vectors

@@ -1,3 +1,4 @@
 pub mod ContentLaws
 pub mod RowLaws
 pub mod OnlyLaws
+pub mod Edges

@@ -1,2 +1,3 @@
 pub mod FrameLength
 pub mod WritingLaws
+pub mod Vectors
