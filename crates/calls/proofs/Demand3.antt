@@ -48,7 +48,7 @@ fresh-seen m x p e = by (leb m 1) refl
   where
     by : (t : Bool) → leb m 1 ≡ t → fresh m ≡ made (view (x .reader))
     by true q = p .good (leb-true m 1 q) .1
-    by false q = absurd (let z : ⊥ = omega (arith, e, p .bad (leb-false m 1 q) .0) in z)
+    by false q = absurd (let z : ⊥ = omega (arith, e, p .bad (leb-false m 1 q)) in z)
 
 pub lift : {m : ℕ} {h : History} {r : Reader} → Trace m h r → Seen m h (view r)
 lift {m} (begun x p e) = Seen.begun (fresh-seen m x p e)

@@ -19,7 +19,7 @@ fresh-refused m x q n = by (leb m 1) refl
   where
     by : (t : Bool) → leb m 1 ≡ t → (fresh m ≡ refused 1) × (x .refusal ≡ 1)
     by true e = absurd (n (q .good (leb-true m 1 e) .0))
-    by false e = let h = leb-false m 1 e in (rw (lt-leb m 1 h), q .bad h .0)
+    by false e = let h = leb-false m 1 e in (rw (lt-leb m 1 h), q .bad h)
 
 -- the record that a fresh reader has
 abbrev recOf : Begun → Rec → Rec
@@ -36,4 +36,4 @@ fresh-good m x q z = by (leb m 1) refl
         let begun : fresh m ≡ made (mirror m []) = rw (le-leb m 1 h) in
         let same : view (x .reader) ≡ mirror m [] = ap (λ (y : Begun). recOf y (mirror m [])) (sym f ∙ begun) in
         (f, (omega (arith, ap (λ (v : Rec). v .mode) same), subst⁻¹ Possible same (is-possible m [])))
-    by false e = absurd (let y : ⊥ = omega (arith, q .bad (leb-false m 1 e) .0) in y)
+    by false e = absurd (let y : ⊥ = omega (arith, q .bad (leb-false m 1 e)) in y)

@@ -9,7 +9,7 @@ use Rattle.record.specs.View.{view}
 use Rattle.record.specs.declared.Reader.{Reader}
 use Rattle.record.specs.declared.Fresh.{Fresh}
 
--- the record that stands beside a refused fresh reader, whole
+-- a record of mode m that has taken nothing, whole
 abbrev pub blank : ℕ → Reader
 blank m =
     record {
@@ -32,4 +32,6 @@ blank m =
 
 pub record FreshPost (m : ℕ) (x : Fresh) : Type 0 where
   pub good : m ≤ 1 → (x .refusal ≡ 0) × (fresh m ≡ made (view (x .reader)))
-  pub bad : 1 < m → (x .refusal ≡ 1) × (x .reader ≡ blank m)
+  pub bad : 1 < m → x .refusal ≡ 1
+  -- the record, whole: of mode 0 or 1 it is the fresh one, else a stand-in, which question 1 refuses
+  pub whole : x .reader ≡ blank m

@@ -38,13 +38,15 @@ returns c =
     record {
       good = λ g. (refl, fresh-blank (c .before .before .args .mode) g ∙ ap (λ r. made (view r)) (sym (c .before .blank .ensures)));
       bad = λ b. absurd (let z : ⊥ = omega (arith, c .if1 .taken) in z);
+      whole = c .before .blank .ensures;
     }
 
 returns-2 : tie.Need-returns-2
 returns-2 c =
     record {
       good = λ g. absurd (let z : ⊥ = omega (arith, c .if1 .left) in z);
-      bad = λ b. (refl, c .before .blank .ensures);
+      bad = λ b. refl;
+      whole = c .before .blank .ensures;
     }
 
 pub fresh-spec : {M : Type 1} → statement M
