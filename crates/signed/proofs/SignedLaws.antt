@@ -14,6 +14,11 @@ use mir.Val.{Fits, SFits, toZ, ofZ, sel, bits, hbits}
 use mir.ValLaws.{bits-suc, pow-bits, half-full, toZ-pos, toZ-neg, toZ-ofZ}
 use Rattle.signed.specs.Signed.{signed, unsigned}
 
+-- the upper half is less 2 ^ n
+upper : (n b : ℕ) → 2 ^ (n - 1) ≤ b → signed n b ≡ negsuc (2 ^ n - 1 - b)
+unfolding signed
+upper n b h = rw (le-ltb b (2 ^ (n - 1)) h)
+
 pub signed-unsigned : (n : ℕ) (z : ℤ) → 0 < n → mag z < 2 ^ (n - 1) → signed n (unsigned n z) ≡ z
 unfolding signed unsigned
 signed-unsigned zero z p h = absurd (omega arith)
@@ -22,9 +27,9 @@ signed-unsigned (suc n) (negsuc x) p h =
     let e : suc n - 1 ≡ n = omega arith in
     let two : 2 ^ suc n ≡ 2 ^ n * 2 = pow-suc 2 n in
     let k : x < 2 ^ n = rw e at h in
-    let up : 2 ^ n ≤ 2 ^ suc n - 1 - x = omega arith in
+    let up : 2 ^ (suc n - 1) ≤ 2 ^ suc n - 1 - x = rw e (omega arith) in
     let back : 2 ^ suc n - 1 - (2 ^ suc n - 1 - x) ≡ x = omega arith in
-    rw (e, le-ltb (2 ^ suc n - 1 - x) (2 ^ n) up, back)
+    upper (suc n) (2 ^ suc n - 1 - x) up ∙ ap negsuc back
 
 pub unsigned-signed : (n b : ℕ) → b < 2 ^ n → unsigned n (signed n b) ≡ b
 unfolding signed unsigned

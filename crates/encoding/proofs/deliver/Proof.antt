@@ -1,6 +1,9 @@
 -- `deliver` meets its contract: each return is a case of the laws.
 use mathlib.Core.Path.{_≡_, sym, ap, _∙_}
+use Prim.Native.Nat.{_≤_, _<_}
+use native.Mathlib.Omega.{arith}
 use borrow.Author.Needs.{needs}
+use lib.ListN.{length}
 use Rattle.kinds.specs.Kinds.{content}
 use Rattle.encoding.specs.Written.{refused}
 use Rattle.encoding.proofs.WrittenLaws.{written-refused, filled-refused, written-short, filled-short, written-all, filled-all}
@@ -19,8 +22,11 @@ returns c =
 
 returns-2 : tie.Need-returns-2
 returns-2 c =
-    let e = sym (c .before .before .content .ensures) ∙ c .before .if1 .left in
-    (sym (written-short _ _ _ e (c .if2 .taken)), sym (filled-short _ _ _ e (c .if2 .taken)))
+    let k = c .before .before in
+    let a = k .before .before .before .args in
+    let e = sym (k .content .ensures) ∙ c .before .if1 .left in
+    let s : length (a .buf .now) < length (a .body .now) = omega (arith, c .if2 .taken) in
+    (sym (written-short _ _ _ e s), sym (filled-short _ _ _ e s))
 
 put-requires : tie.Need-put-requires
 put-requires c κs = search needs
@@ -31,9 +37,12 @@ same-length c = search needs
 returns-3 : tie.Need-returns-3
 returns-3 c =
     let w = c .before .before in
-    let k = w .before .before in
-    let e = sym (k .before .before .content .ensures) ∙ k .before .if1 .left in
-    (sym (written-all _ _ _ e (k .if2 .left)), w .put .ensures .1 ∙ sym (filled-all _ _ _ e (k .if2 .left)))
+    let l = w .before .before in
+    let k = l .before .before in
+    let a = k .before .before .before .args in
+    let e = sym (k .content .ensures) ∙ l .before .if1 .left in
+    let h : length (a .body .now) ≤ length (a .buf .now) = omega (arith, l .if2 .left) in
+    (sym (written-all _ _ _ e h), w .put .ensures .1 ∙ sym (filled-all _ _ _ e h))
 
 pub deliver-spec : {M : Type 1} → statement M
 deliver-spec =

@@ -1,11 +1,14 @@
 -- `encode_23` meets its contract: by the count, then as `deliver` has it.
-use mathlib.Core.Path.{refl, sym}
+use mathlib.Core.Path.{_≡_, refl, sym, ap, _∙_}
+use Prim.Native.Nat.{_≤_, _<_}
+use native.Mathlib.Omega.{arith}
 use borrow.Author.Needs.{needs}
 use borrow.Author.Tests.{le-leb, lt-leb}
 use lib.Seq.{length-take-le}
 use mir.Facts.{toZ-ofZ}
 use mir.Syntax.{w8}
 use mir.Val.{SFits}
+use Rattle.signed.specs.Signed.{unsigned}
 use Rattle.fields_23.specs.Fields.{write23, fill23}
 use Rattle.fields_23.proofs.encode_23.Statement.{statement}
 use Rattle.fields_23.proofs.encode_23.Tie as tie
@@ -18,7 +21,9 @@ minutes c = search needs
 
 returns : tie.Need-returns
 unfolding write23 fill23
-returns c = rw (lt-leb _ _ (c .if1 .taken)) (refl, refl)
+returns c =
+    let over : 2 < c .before .before .args .f .count = omega (arith, c .if1 .taken) in
+    rw (lt-leb _ _ over) (refl, refl)
 
 int8-byte-requires : tie.Need-int8-byte-requires
 int8-byte-requires c κs = tt
@@ -27,7 +32,7 @@ int8-byte-requires-2 : tie.Need-int8-byte-requires-2
 int8-byte-requires-2 c κs = tt
 
 array-share-prefix-all : tie.Need-array-share-prefix-all
-array-share-prefix-all c = search needs
+array-share-prefix-all c = omega (arith, c .before .before .before .before .if1 .left)
 
 slice-aggregate-deliver : tie.Need-slice-aggregate-deliver
 slice-aggregate-deliver c = sym (length-take-le _ _ (search needs))
@@ -46,7 +51,10 @@ returns-2 c =
     let h = m .before .before in
     let n = h .before .before in
     let g = n .before .before in
-    rw (le-leb _ _ (n .if1 .left), ← toZ-ofZ (hours g), ← toZ-ofZ (minutes g), ← h .int8-byte .ensures, ← m .int8-byte2 .ensures) (p .deliver .ensures)
+    let within : g .args .f .count ≤ 2 = omega (arith, n .if1 .left) in
+    let first : h .int8-byte .result ≡ unsigned 8 (g .args .f .hours) = h .int8-byte .ensures ∙ ap (unsigned 8) (toZ-ofZ (hours g)) in
+    let second : m .int8-byte2 .result ≡ unsigned 8 (g .args .f .minutes) = m .int8-byte2 .ensures ∙ ap (unsigned 8) (toZ-ofZ (minutes g)) in
+    rw (le-leb _ _ within, ← first, ← second) (p .deliver .ensures)
 
 pub encode-23-spec : {M : Type 1} → statement M
 encode-23-spec =

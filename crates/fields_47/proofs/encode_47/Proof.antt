@@ -1,6 +1,6 @@
 -- `encode_47` meets its contract: the array is the triples' data, and `deliver` does the rest.
 use mathlib.Core.List.{List}
-use mathlib.Core.Path.{ap, _∙_}
+use mathlib.Core.Path.{_≡_, ap, _∙_}
 use Prim.Native.Nat.{ℕ}
 use borrow.Author.Needs.{needs}
 use Rattle.encoding.specs.Written.{writtenOf, filledOf}
@@ -23,8 +23,9 @@ returns : tie.Need-returns
 returns c =
     let p = c .before .before in
     let w = p .before .before .before in
-    let b = w .before .before .before .args .buf .now in (
-      p .deliver .ensures .0 ∙ ap (λ (d : List ℕ). writtenOf 0x47 d b) (w .uses-data .ensures),
+    let b = w .before .before .before .args .buf .now in
+    let answer : p .deliver .result ≡ writtenOf 0x47 (w .uses-data .result) b = p .deliver .ensures .0 in (
+      answer ∙ ap (λ (d : List ℕ). writtenOf 0x47 d b) (w .uses-data .ensures),
       p .deliver .ensures .1 ∙ ap (λ (d : List ℕ). filledOf 0x47 d b) (w .uses-data .ensures),
     )
 

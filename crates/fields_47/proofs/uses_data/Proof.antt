@@ -65,9 +65,10 @@ loop-again c =
     let d = p .before .before .before in
     let l = d .before .before .before in
     let us = l .before .args .t1 in
-    let i = l .loop .i in (
+    let i = l .loop .i in
+    let next : p .put .last .1 .0 ≡ placed (l .loop .all) (3 * i) (d .use-data .result) = p .put .ensures .1 in (
       omega arith,
-      p .put .ensures .1 ∙ (λ k. placed (l .loop .inv .1 k) (3 * i) (d .use-data .ensures k)) ∙ joined-more (bytes us) 3 (λ _. refl) zeros i (omega arith),
+      next ∙ (λ k. placed (l .loop .inv .1 k) (3 * i) (d .use-data .ensures k)) ∙ joined-more (bytes us) 3 (λ _. refl) zeros i (omega arith),
     )
 
 returns : tie.Need-returns Inv-loop μ-loop

@@ -1,5 +1,5 @@
 -- `decode_49` meets its contract: by the answer of `content` and the first byte.
-use mathlib.Core.Path.{sym, ap}
+use mathlib.Core.Path.{_≡_, sym, ap}
 use borrow.Author.Tests.{eq-eqb, ne-eqb}
 use Rattle.fields_49.specs.Ephemeris.{ephemerisOf}
 use Rattle.fields_49.specs.declared.Ephemeris.{Ephemeris}
@@ -14,13 +14,15 @@ returns-2 : tie.Need-returns-2
 unfolding ephemerisOf
 returns-2 c =
     let f = c .before .before in
-    rw (sym (f .before .before .content .ensures), eq-eqb _ _ (f .before .if1 .left), sym (f .int8u-at .ensures), eq-eqb _ _ (c .before .if2 .taken)) (ap Ephemeris.Gps (c .read-gps .ensures))
+    let gps : f .int8u-at .result ≡ 1 = c .before .if2 .taken in
+    rw (sym (f .before .before .content .ensures), eq-eqb _ _ (f .before .if1 .left), sym (f .int8u-at .ensures), eq-eqb _ _ gps) (ap Ephemeris.Gps (c .read-gps .ensures))
 
 returns-3 : tie.Need-returns-3
 unfolding ephemerisOf
 returns-3 c =
     let f = c .before .before in
-    rw (sym (f .before .before .content .ensures), eq-eqb _ _ (f .before .if1 .left), sym (f .int8u-at .ensures), ne-eqb _ _ (c .before .if2 .left)) (ap Ephemeris.Glonass (c .read-glonass .ensures))
+    let other : f .int8u-at .result ≡ 1 → ⊥ = c .before .if2 .left in
+    rw (sym (f .before .before .content .ensures), eq-eqb _ _ (f .before .if1 .left), sym (f .int8u-at .ensures), ne-eqb _ _ other) (ap Ephemeris.Glonass (c .read-glonass .ensures))
 
 pub decode-49-spec : {M : Type 1} → statement M
 decode-49-spec =

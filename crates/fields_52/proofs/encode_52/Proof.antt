@@ -1,7 +1,8 @@
 -- `encode_52` meets its contract: the array's start is the entries' data, and `deliver` does the rest.
 use mathlib.Core.Path.{refl, sym, ap, _∙_}
 use mathlib.Core.List.{List}
-use Prim.Native.Nat.{ℕ}
+use Prim.Native.Nat.{ℕ, _≤_, _<_}
+use native.Mathlib.Omega.{arith}
 use borrow.Author.Needs.{needs}
 use borrow.Author.Tests.{le-leb, lt-leb}
 use lib.Seq.{length-take-le}
@@ -12,16 +13,18 @@ use Rattle.fields_52.proofs.encode_52.Tie as tie
 
 returns : tie.Need-returns
 unfolding write52 fill52
-returns c = rw (lt-leb _ _ (c .if1 .taken)) (refl, refl)
+returns c =
+    let over : 75 < c .before .before .before .args .f .n = omega (arith, c .if1 .taken) in
+    rw (lt-leb _ _ over) (refl, refl)
 
 entries-data-requires : tie.Need-entries-data-requires
-entries-data-requires c κs = search needs
+entries-data-requires c κs = omega (arith, c .if1 .left)
 
 mul-end : tie.Need-mul-end
 mul-end c = search needs
 
 array-share-prefix-all : tie.Need-array-share-prefix-all
-array-share-prefix-all c = search needs
+array-share-prefix-all c = omega (arith, c .before .if1 .left)
 
 slice-aggregate-deliver : tie.Need-slice-aggregate-deliver
 slice-aggregate-deliver c = sym (length-take-le _ (c .before .entries-data .result) (search needs))
@@ -37,8 +40,10 @@ unfolding write52 fill52
 returns-2 c =
     let p = c .before .before in
     let w = p .before .before .before in
-    let b = w .before .before .before .before .args .buf .now in
-    rw (le-leb _ _ (w .before .if1 .left)) (
+    let g = w .before .before .before .before in
+    let b = g .args .buf .now in
+    let within : g .args .f .n ≤ 75 = omega (arith, w .before .if1 .left) in
+    rw (le-leb _ _ within) (
       p .deliver .ensures .0 ∙ ap (λ (d : List ℕ). writtenOf 0x52 d b) (w .entries-data .ensures),
       p .deliver .ensures .1 ∙ ap (λ (d : List ℕ). filledOf 0x52 d b) (w .entries-data .ensures),
     )

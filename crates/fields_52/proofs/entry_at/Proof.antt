@@ -1,6 +1,8 @@
 -- `entry_at` meets its contract, field by field.
-use mathlib.Core.Path.{ap, _∙_}
+use mathlib.Core.Path.{_≡_, ap, _∙_}
+use Prim.Native.Nat.{_+_, _*_}
 use Rattle.signed.specs.Signed.{int8}
+use Rattle.limits.specs.Ranges.{byte}
 use borrow.Author.Needs.{sfits-of, needs}
 use mir.Facts.{toZ-ofZ}
 use mir.Syntax.{w8}
@@ -51,13 +53,16 @@ returns c =
     let u = c .before in
     let s = u .before .before in
     let b = s .before in
+    let a = b .before .before .before .before .args in
+    let elevation : u .before .byte-at4 .result ≡ byte (a .body .now) (7 * a .i + 3) = u .before .byte-at4 .ensures in
+    let signal : c .byte-at5 .result ≡ byte (a .body .now) (7 * a .i + 6) = c .byte-at5 .ensures in
     λ k. record {
       system = b .before .before .byte-at .ensures k;
       number = b .before .byte-at2 .ensures k;
       carrier = (toZ-ofZ {w = w8} (sfits-of (s .int8-of .ok)) ∙ s .int8-of .ensures ∙ ap int8 (b .byte-at3 .ensures)) k;
-      elevation = u .before .byte-at4 .ensures k;
+      elevation = elevation k;
       azimuth = u .u16-at .ensures k;
-      signal = c .byte-at5 .ensures k;
+      signal = signal k;
     }
 
 pub entry-at-spec : {M : Type 1} → statement M

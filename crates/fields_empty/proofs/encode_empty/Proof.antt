@@ -1,7 +1,9 @@
 -- `encode_empty` meets its contract: outside the family 10, in it as `deliver` has it.
-use mathlib.Core.Path.{refl, sym, _∙_}
+use mathlib.Core.Path.{_≡_, refl, sym, _∙_}
+use mathlib.Core.Bool.{true, false}
 use borrow.Author.Needs.{needs}
 use borrow.Author.Tests.{not-true, not-false}
+use Rattle.fields_empty.specs.Family.{emptyKind}
 use Rattle.fields_empty.proofs.encode_empty.Statement.{statement}
 use Rattle.fields_empty.proofs.encode_empty.Tie as tie
 
@@ -9,7 +11,10 @@ empty-kind-requires : tie.Need-empty-kind-requires
 empty-kind-requires c κs = tt
 
 returns : tie.Need-returns
-returns c = rw (sym (c .before .empty-kind .ensures) ∙ not-true _ (c .if1 .taken)) (refl, refl)
+returns c =
+    let k = c .before in
+    let outside : emptyKind (k .before .before .args .id) ≡ false = sym (k .empty-kind .ensures) ∙ not-true (k .empty-kind .result) (c .if1 .taken) in
+    rw outside (refl, refl)
 
 array-share-prefix-none : tie.Need-array-share-prefix-none
 array-share-prefix-none c = search needs
@@ -26,8 +31,10 @@ same-length c = search needs
 returns-2 : tie.Need-returns-2
 returns-2 c =
     let p = c .before .before in
-    let k = p .before .before .before in
-    rw (sym (k .before .empty-kind .ensures) ∙ not-false _ (k .if1 .left)) (p .deliver .ensures)
+    let i = p .before .before .before in
+    let k = i .before in
+    let inside : emptyKind (k .before .before .args .id) ≡ true = sym (k .empty-kind .ensures) ∙ not-false (k .empty-kind .result) (i .if1 .left) in
+    rw inside (p .deliver .ensures)
 
 pub encode-empty-spec : {M : Type 1} → statement M
 encode-empty-spec =

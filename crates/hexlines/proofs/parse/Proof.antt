@@ -1,6 +1,6 @@
 -- `hexlines::parse` meets its contract. The loop's invariant: what the digits still to be read give, put after the bytes stored,
 -- makes the whole.
-use mathlib.Core.Path.{ap, _∙_}
+use mathlib.Core.Path.{_≡_, ap, _∙_}
 use Prim.Native.Nat.{ℕ, _+_, _-_, _*_, _≤_, _<_}
 use native.Mathlib.Omega.{arith}
 use lib.ListN.{length, getD, set}
@@ -27,7 +27,8 @@ stored c =
     let b = c .before .before .byte-at in
     let h : l .loop .n < length (l .before .before .before .args .out .now) = omega (arith, l .loop .inv .1 .same) in
     let k : i < length s = omega arith in
-    left-more _ _ _ _ i _ (l .loop .inv .1) h k (c .octet .ensures ∙ ap (λ (x : ℕ). digitOf (getD s i 0) * 16 + digitOf x) (b .ensures))
+    let high : c .octet .result ≡ digitOf (getD s i 0) * 16 + digitOf (b .result) = c .octet .ensures in
+    left-more _ _ _ _ i _ (l .loop .inv .1) h k (high ∙ ap (λ (x : ℕ). digitOf (getD s i 0) * 16 + digitOf x) (b .ensures))
 
 loop-holds : tie.Need-loop-holds Inv-loop μ-loop
 loop-holds c = (omega arith, left-all _ _)

@@ -1,22 +1,23 @@
--- `find_kind` meets its contract: the rows passed do not have the identifier.
+-- `find_kind` meets its contract: the code's table is that of the definitions, and the rows passed do not have the identifier.
 use mathlib.Core.Path.{_≡_, refl, sym, ap, _∙_}
 use Prim.Native.Nat.{ℕ, _≤_, _-_}
 use native.Mathlib.Omega.{arith}
 use borrow.Author.Needs.{needs}
 use lib.ListN.{drop}
 use Rattle.kinds.specs.Kinds.{table, rowIn, listed}
-use Rattle.kinds.proofs.RowLaws.{hit, miss}
+use Rattle.kinds.proofs.RowLaws.{kindsOf, hit, miss}
 use Rattle.kinds.proofs.find_kind.Statement.{statement}
 use Rattle.kinds.proofs.find_kind.Tie as tie
 
 abbrev Inv-loop : tie.InvT-loop
-Inv-loop id kinds i₀ i = (i ≤ 20) × (rowIn (drop i table) id ≡ rowIn table id)
+Inv-loop id kinds i₀ i = (i ≤ 20) × (rowIn (drop i table) id ≡ rowIn table id) × (kinds ≡ kindsOf table)
 
 abbrev μ-loop : tie.MeasureT-loop
 μ-loop id kinds i₀ i = 20 - i
 
 loop-holds : tie.Need-loop-holds Inv-loop μ-loop
-loop-holds c = (search needs, refl)
+unfolding table
+loop-holds c = (search needs, refl, refl)
 
 mul-k : tie.Need-mul-k Inv-loop μ-loop
 mul-k c = omega arith
@@ -42,6 +43,7 @@ loop-again c =
     let t = c .before .before .before in (
       omega arith,
       sym (miss table (t .before .loop .i) (t .before .before .args .id) _ (t .loop-test .taken) (c .if1 .left)) ∙ t .before .loop .inv .1,
+      t .before .loop .inv .2,
     )
 
 returns-2 : tie.Need-returns-2 Inv-loop μ-loop

@@ -9,7 +9,7 @@ fresh-requires c κs = tt
 returns : tie.Need-returns
 returns c =
     let f = c .before .before in
-    rw (fresh-refused _ (f .fresh .result) (f .fresh .ensures) (c .if1 .taken) .0)
+    rw (fresh-refused (f .before .before .args .mode) (f .fresh .result) (f .fresh .ensures) (c .if1 .taken) .0)
 
 count-requires : tie.Need-count-requires
 count-requires c κs = tt
@@ -18,7 +18,7 @@ returns-2 : tie.Need-returns-2
 returns-2 c =
     let i = c .before .before in
     let f = i .before .before in
-    let g = fresh-good _ (f .fresh .result) (f .fresh .ensures) (i .if1 .left) in
+    let g = fresh-good (f .before .before .args .mode) (f .fresh .result) (f .fresh .ensures) (i .if1 .left) in
     rw (g .0) (c .count .ensures .rest (g .1 .0) (g .1 .1) (λ o. absurd o))
 
 pub count-events-spec : {M : Type 1} → statement M

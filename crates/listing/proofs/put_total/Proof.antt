@@ -58,11 +58,12 @@ returns c =
     let k = d .put-decimals .result in
     let ns : List ℕ = x .fed ∷ x .accepted ∷ x .refused ∷ x .outside ∷ x .pending ∷ [] in
     let l = total-length (x .fed) (x .accepted) (x .refused) (x .outside) (x .pending) in
+    let word : p .put .last .1 .0 ≡ placed (x .line .now) 0 (116 ∷ 111 ∷ 116 ∷ 97 ∷ 108 ∷ []) = p .put .ensures .1 in
     let ek : k ≡ 5 + length (decimals ns) = d .put-decimals .ensures .0 in (
       omega arith,
       e .put2 .ensures .1
           ∙ ap (λ (z : List ℕ). placed z k (newline ∷ [])) (d .put-decimals .ensures .1)
-          ∙ ap (λ (z : List ℕ). placed (placed z 5 (decimals ns)) k (newline ∷ [])) (p .put .ensures .1)
+          ∙ ap (λ (z : List ℕ). placed (placed z 5 (decimals ns)) k (newline ∷ [])) word
           ∙ total-parts (x .fed) (x .accepted) (x .refused) (x .outside) (x .pending) (x .line .now) k
           (omega (arith, numbers-short g, g .pre)) ek,
     )

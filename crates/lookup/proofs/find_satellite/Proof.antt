@@ -1,5 +1,5 @@
 -- `find_satellite` meets its contract. The loop's invariant: no entry passed has both.
-use mathlib.Core.Path.{sym, _∙_}
+use mathlib.Core.Path.{_≡_, sym, _∙_}
 use mathlib.Core.Bool.{and-eq-true-iff}
 use Prim.Native.Nat.{ℕ, _-_, _≤_, _<_}
 use native.Mathlib.Omega.{arith}
@@ -41,10 +41,13 @@ returns-2 : tie.Need-returns-2 Inv-loop μ-loop
 returns-2 c =
     let p = c .before .before in
     let g = p .before .before .before in
-    let b = and-eq-true-iff _ _ .0 (c .if2 .taken) in (
+    let a = g .before .before .before .args in
+    let b = and-eq-true-iff _ _ .0 (c .if2 .taken) in
+    let first : p .byte-at .result ≡ a .system = eqb-true _ _ (b .0) in
+    let second : c .before .byte-at2 .result ≡ a .number = eqb-true _ _ (b .1) in (
       sym (g .before .content .ensures) ∙ g .if1 .left,
       omega arith,
-      (sym (p .byte-at .ensures) ∙ eqb-true _ _ (b .0), sym (c .before .byte-at2 .ensures) ∙ eqb-true _ _ (b .1)),
+      (sym (p .byte-at .ensures) ∙ first, sym (c .before .byte-at2 .ensures) ∙ second),
     )
 
 add-i : tie.Need-add-i Inv-loop μ-loop

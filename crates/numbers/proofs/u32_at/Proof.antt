@@ -1,5 +1,5 @@
 -- `u32_at` meets its contract: by what its callee ensures.
-use borrow.Author.Needs.{needs}
+use native.Mathlib.Omega.{arith}
 use Rattle.numbers.proofs.u32_at.Statement.{statement}
 use Rattle.numbers.proofs.u32_at.Tie as tie
 
@@ -7,7 +7,7 @@ number-at-requires : tie.Need-number-at-requires
 number-at-requires c κs = tt
 
 cast-result : tie.Need-cast-result
-cast-result c = search needs
+cast-result c = omega (arith, c .number-at .ensures .1)
 
 returns : tie.Need-returns
 returns c = c .number-at .ensures .0

@@ -127,7 +127,7 @@ returns-5 : tie.Need-returns-5
 returns-5 c =
     let q = c .before .before .before in
     let w = q .before .before .before .before in
-    refused-3 (of (w .before .before .before .before)) _ (omega (arith, w .before .if1 .left)) (valid q) (c .if7 .taken) (omega (arith, c .before .if6 .taken))
+    refused-3 (of (w .before .before .before .before)) _ (omega (arith, w .before .if1 .left)) (valid q) (omega (arith, c .if7 .taken)) (omega (arith, c .before .if6 .taken))
 
 returns-6 : tie.Need-returns-6
 returns-6 c =

@@ -68,7 +68,7 @@ triple-requires c κs = tt
 returns : tie.Need-returns Inv-loop μ-loop
 returns c =
     let t = c .before in
-    sym (seen-bad (body t) (turn t .loop .i) (t .before .before .before .before .loop-test .taken) (sym (triple-is t) ∙ not-true _ (c .if1 .taken)))
+    sym (seen-bad (body t) (turn t .loop .i) (omega (arith, t .before .before .before .before .loop-test .taken)) (sym (triple-is t) ∙ not-true _ (c .if1 .taken)))
 
 place-requires : tie.Need-place-requires Inv-loop μ-loop
 place-requires c κs = and-eq-true-iff _ _ .0 (sym (c .before .triple .ensures) ∙ not-false _ (c .if1 .left)) .0
@@ -82,7 +82,7 @@ returns-2 c =
     let t = p .before .before in
     let l = turn t in
     let b : bit (l .loop .seen) (p .place .result) ≡ 1 = eqb-true _ _ (sym (c .before .is-set .ensures) ∙ c .if2 .taken) in
-    sym (seen-twice (body t) (l .loop .seen) (l .loop .i) (l .loop .inv .1) (t .before .before .before .before .loop-test .taken) (valid-at p) (rw (place-is p) at b))
+    sym (seen-twice (body t) (l .loop .seen) (l .loop .i) (l .loop .inv .1) (omega (arith, t .before .before .before .before .loop-test .taken)) (valid-at p) (rw (place-is p) at b))
 
 set-bit-requires : tie.Need-set-bit-requires Inv-loop μ-loop
 set-bit-requires c κs = omega (arith, below (c .before .before))

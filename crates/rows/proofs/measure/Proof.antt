@@ -1,6 +1,6 @@
 -- `measure` meets its contract. The loop's invariant: the answer is that of the widths still to go and the room left.
 use mathlib.Core.Path.{_≡_, refl, _∙_}
-use Prim.Native.Nat.{_+_, _-_, _≤_}
+use Prim.Native.Nat.{_+_, _-_, _≤_, _<_}
 use native.Mathlib.Omega.{arith}
 use borrow.Author.Tests.{le-leb, lt-leb}
 use lib.ListN.{length, drop}
@@ -21,7 +21,14 @@ abbrev μ-loop : tie.MeasureT-loop
 
 returns : tie.Need-returns Inv-loop μ-loop
 unfolding packs
-returns c = rw (lt-leb _ _ (c .if1 .taken))
+returns c =
+    let a = c .before .args in
+    let few : a .count < length (a .widths .now) = omega (arith, c .if1 .taken) in
+    rw (lt-leb _ _ few)
+
+-- past the test there is a word for each width
+enough : (c : tie.Else1 Inv-loop μ-loop) → length (c .before .args .widths .now) ≤ c .before .args .count
+enough c = omega (arith, c .if1 .left)
 
 loop-holds : tie.Need-loop-holds Inv-loop μ-loop
 loop-holds c = (omega arith, refl, refl, omega arith)
@@ -37,14 +44,14 @@ unfolding packs
 returns-2 c =
     let t = c .before .before in
     let l = t .before in
-    rw (le-leb _ _ (l .before .if1 .left), l .loop .inv .1 ∙ within-wide _ _ _ (t .loop-test .taken) (c .if2 .taken))
+    rw (le-leb _ _ (enough (l .before)), l .loop .inv .1 ∙ within-wide _ _ _ (t .loop-test .taken) (c .if2 .taken))
 
 returns-3 : tie.Need-returns-3 Inv-loop μ-loop
 unfolding packs
 returns-3 c =
     let t = c .before .before .before in
     let l = t .before in
-    rw (le-leb _ _ (l .before .if1 .left), l .loop .inv .1 ∙ within-over _ _ _ (t .loop-test .taken) (c .if3 .taken))
+    rw (le-leb _ _ (enough (l .before)), l .loop .inv .1 ∙ within-over _ _ _ (t .loop-test .taken) (c .if3 .taken))
 
 add-i : tie.Need-add-i Inv-loop μ-loop
 add-i c = omega arith
@@ -72,7 +79,7 @@ returns-4 c =
     let l = c .before in
     let e : l .loop .i ≡ length (l .before .before .args .widths .now) = omega arith in
     let none = within-none (l .before .before .args .widths .now) (l .loop .left) (l .loop .i) e in
-    rw (le-leb _ _ (l .before .if1 .left), l .loop .inv .1 ∙ none .0) (omega (arith, none .1, l .loop .inv .2, l .loop .inv .3))
+    rw (le-leb _ _ (enough (l .before)), l .loop .inv .1 ∙ none .0) (omega (arith, none .1, l .loop .inv .2, l .loop .inv .3))
 
 pub measure-spec : {M : Type 1} → statement M
 measure-spec =
