@@ -1,0 +1,3 @@
+pub mod ThroughLaws
+pub mod ChunkLaws
+pub mod ReadsLaws

@@ -1,0 +1,94 @@
+-- Laws of bytes listed one after the other: what a part of a listing leaves of them, and that they may be cut anywhere.
+use mathlib.Core.Bool.{Bool, true, false, cond}
+use mathlib.Core.List.{List, [], _∷_, _++_}
+use mathlib.Core.Path.{_≡_, refl, sym, ap, _∙_}
+use Prim.Native.Nat.{ℕ, _+_, _-_, _≤_, _<_}
+use native.Mathlib.Omega.{arith}
+use borrow.Author.Tests.{ltb-true}
+use lib.Dec.{ltb}
+use lib.ListN.{length, drop}
+use Rattle.line.specs.Record.{Rec, limit, eventOf, stepped}
+use Rattle.lister.specs.Listing.{lineOf, longest, Piece, piece}
+use Rattle.lister.proofs.PieceLaws.{pieced}
+use Rattle.streaming.specs.Through.{Through, until, through}
+
+-- one byte, by whether it can be counted; x is what the others come to
+abbrev led : Rec → Through → Bool → Through
+led r x t = cond t x (until 3 r)
+
+-- a piece, and then what it leaves
+pub through-piece : (l : List ℕ) (room : ℕ) (r : Rec)
+    → through r l ≡ through (piece room r l .after) (drop (piece room r l .taken) l)
+through-piece [] room r = refl
+through-piece (b ∷ bs) room r =
+    by (ltb room longest) (ltb (r .fed) limit) refl (through-piece bs (room - length (lineOf (r .fed) (eventOf r b))) (stepped r b))
+  where
+    s : List ℕ
+    s = lineOf (r .fed) (eventOf r b)
+
+    p : Piece
+    p = piece (room - length s) (stepped r b) bs
+
+    by : (u t : Bool) → ltb (r .fed) limit ≡ t → through (stepped r b) bs ≡ through (p .after) (drop (p .taken) bs)
+        → through r (b ∷ bs) ≡ through (pieced r s p u t .after) (drop (pieced r s p u t .taken) (b ∷ bs))
+    by true t q ih = refl
+    by false true q ih = ap (led r (through (stepped r b) bs)) q ∙ ih
+    by false false q ih = refl
+
+-- a piece that takes nothing, though there is room, stands at the end or at a byte that can't be counted
+pub piece-last : (l : List ℕ) (room : ℕ) (r : Rec) → ltb room longest ≡ false → piece room r l .taken ≡ 0
+    → until (piece room r l .refusal) (piece room r l .after) ≡ through r l
+piece-last [] room r q h = refl
+piece-last (b ∷ bs) room r q h = by (ltb room longest) (ltb (r .fed) limit) q refl h
+  where
+    s : List ℕ
+    s = lineOf (r .fed) (eventOf r b)
+
+    p : Piece
+    p = piece (room - length s) (stepped r b) bs
+
+    by : (u t : Bool) → u ≡ false → ltb (r .fed) limit ≡ t → pieced r s p u t .taken ≡ 0
+        → until (pieced r s p u t .refusal) (pieced r s p u t .after) ≡ through r (b ∷ bs)
+    by true t e k z = absurd (let g : _≡_ {A = ℕ} 0 1 = cc in omega arith)
+    by false true e k z = absurd (omega arith)
+    by false false e k z = ap (led r (through (stepped r b) bs)) (sym k)
+
+-- more bytes, where the first were all counted
+pub through-more : (a b : List ℕ) (r : Rec) → through r a .refusal ≡ 0 → through r (a ++ b) ≡ through (through r a .after) b
+through-more [] b r h = refl
+through-more (x ∷ xs) b r h = by (ltb (r .fed) limit) h (through-more xs b (stepped r x))
+  where
+    by : (t : Bool) → led r (through (stepped r x) xs) t .refusal ≡ 0
+        → (through (stepped r x) xs .refusal ≡ 0 → through (stepped r x) (xs ++ b) ≡ through (through (stepped r x) xs .after) b)
+        → led r (through (stepped r x) (xs ++ b)) t ≡ through (led r (through (stepped r x) xs) t .after) b
+    by true h ih = ih h
+    by false h ih = absurd (omega arith)
+
+-- bytes that were all counted
+pub through-fed : (l : List ℕ) (r : Rec) → through r l .refusal ≡ 0 → through r l .after .fed ≡ r .fed + length l
+through-fed [] r h = omega arith
+through-fed (b ∷ bs) r h = by (ltb (r .fed) limit) h (through-fed bs (stepped r b))
+  where
+    by : (t : Bool) → led r (through (stepped r b) bs) t .refusal ≡ 0
+        → (through (stepped r b) bs .refusal ≡ 0 → through (stepped r b) bs .after .fed ≡ r .fed + 1 + length bs)
+        → led r (through (stepped r b) bs) t .after .fed ≡ r .fed + length (b ∷ bs)
+    by true h ih = omega (arith, ih h)
+    by false h ih = absurd (omega arith)
+
+pub through-limit : (l : List ℕ) (r : Rec) → r .fed ≤ limit → through r l .refusal ≡ 0 → through r l .after .fed ≤ limit
+through-limit [] r f h = f
+through-limit (b ∷ bs) r f h = by (ltb (r .fed) limit) refl h (through-limit bs (stepped r b))
+  where
+    by : (t : Bool) → ltb (r .fed) limit ≡ t → led r (through (stepped r b) bs) t .refusal ≡ 0
+        → (r .fed + 1 ≤ limit → through (stepped r b) bs .refusal ≡ 0 → through (stepped r b) bs .after .fed ≤ limit)
+        → led r (through (stepped r b) bs) t .after .fed ≤ limit
+    by true e h ih = ih (omega (arith, ltb-true (r .fed) limit e)) h
+    by false e h ih = absurd (omega arith)
+
+pub through-below : (l : List ℕ) (r : Rec) → 0 < length l → through r l .refusal ≡ 0 → r .fed < limit
+through-below [] r n h = absurd (omega arith)
+through-below (b ∷ bs) r n h = by (ltb (r .fed) limit) refl h
+  where
+    by : (t : Bool) → ltb (r .fed) limit ≡ t → led r (through (stepped r b) bs) t .refusal ≡ 0 → r .fed < limit
+    by true e h = ltb-true (r .fed) limit e
+    by false e h = absurd (omega arith)
