@@ -1,6 +1,6 @@
 -- Laws of bytes listed one after the other: what a part of a listing leaves of them, and that they may be cut anywhere.
 use mathlib.Core.Bool.{Bool, true, false, cond}
-use mathlib.Core.List.{List, [], _∷_, _++_}
+use mathlib.Core.List.{List, [], _∷_, _++_, append-assoc}
 use mathlib.Core.Path.{_≡_, refl, sym, ap, _∙_}
 use Prim.Native.Nat.{ℕ, _+_, _-_, _≤_, _<_}
 use native.Mathlib.Omega.{arith}
@@ -8,7 +8,8 @@ use borrow.Author.Tests.{ltb-true}
 use lib.Dec.{ltb}
 use lib.ListN.{length, drop}
 use Rattle.line.specs.Record.{Rec, limit, eventOf, stepped}
-use Rattle.lister.specs.Listing.{lineOf, longest, Piece, piece}
+use Rattle.totals.specs.Totals.{totalOf}
+use Rattle.lister.specs.Listing.{lineOf, text, longest, Piece, piece}
 use Rattle.lister.proofs.PieceLaws.{pieced}
 use Rattle.streaming.specs.Through.{Through, until, through}
 
@@ -92,3 +93,17 @@ through-below (b ∷ bs) r n h = by (ltb (r .fed) limit) refl h
     by : (t : Bool) → ltb (r .fed) limit ≡ t → led r (through (stepped r b) bs) t .refusal ≡ 0 → r .fed < limit
     by true e h = ltb-true (r .fed) limit e
     by false e h = absurd (omega arith)
+
+-- the listing of the bytes ends with the total of the record after them
+pub total-last : (l : List ℕ) (r : Rec) → (lines : List ℕ) × (text r l ≡ lines ++ totalOf (through r l .after))
+total-last [] r = ([], refl)
+total-last (b ∷ bs) r = by (ltb (r .fed) limit) (total-last bs (stepped r b))
+  where
+    s : List ℕ
+    s = lineOf (r .fed) (eventOf r b)
+
+    by : (t : Bool) → (lines : List ℕ) × (text (stepped r b) bs ≡ lines ++ totalOf (through (stepped r b) bs .after))
+        → (lines : List ℕ)
+        × (cond t (s ++ text (stepped r b) bs) (totalOf r) ≡ lines ++ totalOf (led r (through (stepped r b) bs) t .after))
+    by true (m, e) = (s ++ m, ap (λ (z : List ℕ). s ++ z) e ∙ sym (append-assoc s m (totalOf (through (stepped r b) bs .after))))
+    by false h = ([], refl)
