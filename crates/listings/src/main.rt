@@ -6,7 +6,7 @@
 // - 03 binr_write: the frame of a message
 // - 04 binr_judge: the answer of questions 10 to 12
 // - 05 count_events, binr_count: the number of events
-// - 06 event_line, whose number is the mode here: of the first and the second number
+// - 06 event_line: the first number is the offset, the second the bytes closed; the event's number stands where the mode does
 // - 07 total_line: of the five numbers
 // - 08 list_total: of a reader with the five counts
 // - 09 list_part: such a reader takes the bytes

@@ -1,4 +1,4 @@
-// Reads calls as hexadecimal text, a line each, and prints how the kinds of fixed layout are decoded and encoded. A line that starts
+// Reads calls as hexadecimal text, a line each, and prints how the kinds without entries are decoded and encoded. A line that starts
 // with # is printed as it is. Any other is family, identifier, a field's number, a value, room in two bytes, low byte first, then data.
 // The family is 00 for the kinds without data, 01 for those of one byte or none, else the identifier of a kind.
 //
@@ -182,7 +182,7 @@ fn run_43(d: &[u8], which: u8, value: u8, buf: &mut [u8]) {
     answer(fields_43::encode_43(changed_43(f, which, value), buf));
 }
 
-// A second out of range is 604,800 and more.
+// A second is 604,800 more than the value and a year 1,900 more, so that those past the ends of the ranges can be had.
 fn changed_46(f: Time, which: u8, value: u8) -> Time {
     let mut g = f;
     match which {
@@ -363,8 +363,7 @@ fn run_eb(d: &[u8], which: u8, value: u8, buf: &mut [u8]) {
         return;
     }
     let f = r.fields;
-    let wide = [f.tau_c];
-    numbers(&wide);
+    number(f.tau_c);
     let narrow = [f.tau_gps, f.b1, f.b2];
     words(&narrow);
     half(f.na);

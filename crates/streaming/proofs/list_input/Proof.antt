@@ -32,7 +32,7 @@ returns c =
     let z = fresh-refused m x (f .fresh .ensures) (c .before .if1 .taken) in
     record {
       good = λ r e. absurd (never r (sym (z .0) ∙ e));
-      bad = λ h. c .unread .ensures ∙ (λ i. unreadOf (f .fresh .ensures .bad h .1 i) (z .1 i));
+      bad = λ h. c .unread .ensures ∙ (λ i. unreadOf (f .fresh .ensures .whole i) (z .1 i));
     }
 
 say-arguments-requires : tie.Need-say-arguments-requires
@@ -60,7 +60,7 @@ returns-2 c =
           let v : view (x .reader) ≡ r = same (sym (w .0) ∙ e) in
           subst (λ (y : Rec). InputPost y (c .print-total .result)) v
           (ended (view (x .reader)) (l .list-reads .result) (c .print-total .result) (l .list-reads .ensures) (c .print-total .ensures));
-      bad = λ h. absurd (let n : ⊥ = omega (arith, f .fresh .ensures .bad h .0) in n);
+      bad = λ h. absurd (let n : ⊥ = omega (arith, f .fresh .ensures .bad h) in n);
     }
 
 pub list-input-spec : {M : Type 1} → statement M
