@@ -1,5 +1,5 @@
 -- `encode_23` meets its contract: by the count, then as `deliver` has it.
-use mathlib.Core.Path.{_≡_, refl, sym, ap, _∙_}
+use mathlib.Core.Path.{_≡_, refl, sym}
 use Prim.Native.Nat.{_≤_, _<_}
 use native.Mathlib.Omega.{arith}
 use borrow.Author.Needs.{needs}
@@ -7,7 +7,7 @@ use borrow.Author.Tests.{le-leb, lt-leb}
 use lib.Seq.{length-take-le}
 use mir.Facts.{toZ-ofZ}
 use mir.Syntax.{w8}
-use mir.Val.{SFits}
+use mir.Val.{SFits, toZ, ofZ}
 use Rattle.signed.specs.Signed.{unsigned}
 use Rattle.fields_23.specs.Fields.{write23, fill23}
 use Rattle.fields_23.proofs.encode_23.Statement.{statement}
@@ -52,9 +52,9 @@ returns-2 c =
     let n = h .before .before in
     let g = n .before .before in
     let within : g .args .f .count ≤ 2 = omega (arith, n .if1 .left) in
-    let first : h .int8-byte .result ≡ unsigned 8 (g .args .f .hours) = h .int8-byte .ensures ∙ ap (unsigned 8) (toZ-ofZ (hours g)) in
-    let second : m .int8-byte2 .result ≡ unsigned 8 (g .args .f .minutes) = m .int8-byte2 .ensures ∙ ap (unsigned 8) (toZ-ofZ (minutes g)) in
-    rw (le-leb _ _ within, ← first, ← second) (p .deliver .ensures)
+    let first : h .int8-byte .result ≡ unsigned 8 (toZ w8 (ofZ w8 (g .args .f .hours))) = h .int8-byte .ensures in
+    let second : m .int8-byte2 .result ≡ unsigned 8 (toZ w8 (ofZ w8 (g .args .f .minutes))) = m .int8-byte2 .ensures in
+    rw (le-leb _ _ within, ← toZ-ofZ (hours g), ← toZ-ofZ (minutes g), ← first, ← second) (p .deliver .ensures)
 
 pub encode-23-spec : {M : Type 1} → statement M
 encode-23-spec =
