@@ -50,7 +50,7 @@ fn flag(on: bool) {
 }
 
 fn int8(z: i8) {
-    let b = signed::int8_byte(z);
+    let b = numbers::int8_byte(z);
     if z < 0 {
         io::write_all(1, b" -");
         io::print_decimal(1, 256 - b as u64);
@@ -60,7 +60,7 @@ fn int8(z: i8) {
 }
 
 fn int16(z: i16) {
-    let v = signed::int16_word(z);
+    let v = numbers::int16_word(z);
     if z < 0 {
         io::write_all(1, b" -");
         io::print_decimal(1, 65536 - v as u64);
@@ -111,13 +111,13 @@ fn run_numbers(at: usize, d: &[u8]) {
     half(numbers::u16_at(d, at));
     word(numbers::u32_at(d, at));
     number(numbers::u64_at(d, at));
-    octet(types::int8u_at(d, at));
-    int8(types::int8s_at(d, at));
+    octet(numbers::int8u_at(d, at));
+    int8(numbers::int8s_at(d, at));
 }
 
 fn run_signed(d: &[u8]) {
-    int8(signed::int8_of(octets::byte_at(d, 0)));
-    int16(signed::int16_of(numbers::u16_at(d, 0)));
+    int8(numbers::int8_of(octets::byte_at(d, 0)));
+    int16(numbers::int16_of(numbers::u16_at(d, 0)));
 }
 
 fn run_stuffing(at: usize, d: &[u8]) {
@@ -196,7 +196,7 @@ fn run_store(d: &[u8]) {
     }
     let f = Reader::fresh(0);
     let n = octets::byte_at(d, 1) as usize;
-    let l = storing::store(f.reader.latest, d[0], &d[2..], n);
+    let l = latest::store(f.reader.latest, d[0], &d[2..], n);
     flag(latest::acceptable(l));
     held_short(l);
     held_long(l);
@@ -309,16 +309,16 @@ fn run_refusals() {
 
 fn run_bits() {
     let bytes = [
-        signed::int8_byte(-128),
-        signed::int8_byte(-1),
-        signed::int8_byte(0),
-        signed::int8_byte(127),
+        numbers::int8_byte(-128),
+        numbers::int8_byte(-1),
+        numbers::int8_byte(0),
+        numbers::int8_byte(127),
     ];
     decimals(&bytes);
-    half(signed::int16_word(-32768));
-    half(signed::int16_word(-1));
-    half(signed::int16_word(0));
-    half(signed::int16_word(32767));
+    half(numbers::int16_word(-32768));
+    half(numbers::int16_word(-1));
+    half(numbers::int16_word(0));
+    half(numbers::int16_word(32767));
 }
 
 fn run_filling(call: u8, a: u64, b: u64, d: &[u8], buf: &mut [u8]) {

@@ -8,7 +8,7 @@ use native.Mathlib.Omega.{arith}
 use borrow.Author.Tests.{leb-true, leb-false}
 use lib.Dec.{leb}
 use lib.ListN.{length, take, length-append}
-use Rattle.encoding.specs.declared.Written.{Written}
+use Rattle.octets.specs.declared.Written.{Written}
 use Rattle.line.specs.Frame.{Mode, modeOf}
 use Rattle.line.specs.Table.{Event}
 use Rattle.line.specs.Table.Event.{message}
@@ -16,7 +16,7 @@ use Rattle.line.specs.Calls.{Call, History, taken, offered, Every, Right, Messa
 use Rattle.line.specs.Calls.History.{start, call}
 use Rattle.line.proofs.Demand3.{demand3, from-fresh}
 use Rattle.record.specs.declared.Reader.{Reader}
-use Rattle.writer.specs.Writing.{writtenOf, filledOf}
+use Rattle.writer.specs.Writing.{frameWritten, frameFilled}
 use Rattle.writer.proofs.WritingLaws.{written-judged, written-back}
 use Rattle.calls.specs.Calls.{Trace}
 use Rattle.calls.proofs.Demand3.{lift}
@@ -57,12 +57,12 @@ module _ (m : ℕ) {h : History} {r : Reader} (t : Trace m h r) where
       given (modeOf m) x h (demand3 m (lift t) .calls) (frame-returns x rest e) (omega (arith, ap length e, length-append (line (modeOf m) x) rest))
 
 -- what the writer accepted
-abbrev pub sent : (m id : ℕ) (d b : List ℕ) → writtenOf m id d b .refusal ≡ 0 → Message
+abbrev pub sent : (m id : ℕ) (d b : List ℕ) → frameWritten m id d b .refusal ≡ 0 → Message
 sent m id d b z = record { id = id; body = d; acceptable = written-judged m id d b z .1 }
 
 -- THE THEOREM: the bytes that the writer says it wrote, w of the buffer b′ that it left, give its message back
-pub returned : (m id : ℕ) (d b : List ℕ) (z : writtenOf m id d b .refusal ≡ 0) (w : Written) (b′ : List ℕ) → w ≡ writtenOf m id d b
-    → b′ ≡ filledOf m id d b → {h : History} {r : Reader} → Trace m h r → (rest : List ℕ) → taken h ≡ take (w .length) b′ ++ rest
+pub returned : (m id : ℕ) (d b : List ℕ) (z : frameWritten m id d b .refusal ≡ 0) (w : Written) (b′ : List ℕ) → w ≡ frameWritten m id d b
+    → b′ ≡ frameFilled m id d b → {h : History} {r : Reader} → Trace m h r → (rest : List ℕ) → taken h ≡ take (w .length) b′ ++ rest
     → Every (Delivers (modeOf m) (sent m id d b z) 0) h × Given (modeOf m) (sent m id d b z) h
 returned m id d b z w b′ ew eb {h} t rest e = (frame-returns m t x rest f, frame-given m t x rest f)
   where

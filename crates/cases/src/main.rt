@@ -158,7 +158,7 @@ fn record_of(s: &[u8], rest: &[u8], n: usize) -> Reader {
     let f = Reader::fresh(octets::byte_at(s, 1));
     octet(f.refusal);
     let h = head_of(s);
-    let l = storing::store(f.reader.latest, octets::byte_at(s, 30), rest, n);
+    let l = latest::store(f.reader.latest, octets::byte_at(s, 30), rest, n);
     let mut bytes = [0u8; 1024];
     bytes[0] = octets::byte_at(s, 28);
     bytes[1] = octets::byte_at(s, 29);

@@ -3,8 +3,8 @@
 // printed as their bits, signed ones as the bytes that stand for them. The byte at offset i is i, made acceptable where it has to be;
 // 4Bh comes a second time with 255 - i, for its signed fields.
 use fields_49::Ephemeris;
-use fields_49_glonass::Glonass;
-use fields_49_gps::Gps;
+use fields_49::Glonass;
+use fields_49::Gps;
 
 fn number(n: u64) {
     io::write_all(1, b" ");
@@ -57,8 +57,8 @@ fn run_20(d: &[u8]) {
 fn run_23(d: &[u8]) {
     let r = fields_23::decode_23(d);
     first(0x23, r.refusal);
-    octet(signed::int8_byte(r.fields.hours));
-    last(signed::int8_byte(r.fields.minutes));
+    octet(numbers::int8_byte(r.fields.hours));
+    last(numbers::int8_byte(r.fields.minutes));
 }
 
 fn run_43(d: &[u8]) {
@@ -77,8 +77,8 @@ fn run_46(d: &[u8]) {
     half(r.fields.year);
     octet(r.fields.day);
     octet(r.fields.month);
-    octet(signed::int8_byte(r.fields.hours));
-    last(signed::int8_byte(r.fields.minutes));
+    octet(numbers::int8_byte(r.fields.hours));
+    last(numbers::int8_byte(r.fields.minutes));
 }
 
 fn show_gps(f: Gps) {
@@ -107,7 +107,7 @@ fn show_glonass(f: Glonass) {
     word(f.tau);
     half(f.age);
     octet(f.number);
-    last(signed::int8_byte(f.carrier));
+    last(numbers::int8_byte(f.carrier));
 }
 
 fn run_49(d: &[u8]) {
@@ -142,10 +142,10 @@ fn run_4b(d: &[u8]) {
     numbers(r.fields.a0, r.fields.a1, r.fields.tau_c);
     word(r.fields.tot);
     half(r.fields.wnt);
-    half(signed::int16_word(r.fields.dt_ls));
+    half(numbers::int16_word(r.fields.dt_ls));
     half(r.fields.wn_lsf);
     half(r.fields.dn);
-    half(signed::int16_word(r.fields.dt_lsf));
+    half(numbers::int16_word(r.fields.dt_lsf));
     half(r.fields.na);
     octet(r.fields.gps_reliable);
     last(r.fields.glonass_reliable);

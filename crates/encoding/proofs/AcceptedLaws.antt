@@ -11,7 +11,7 @@ use borrow.Author.Tests.{eqb-true, leb-true}
 use lib.Dec.{eqb, leb}
 use lib.ListN.{length, drop}
 use lib.Seq.{drop-cons, drop-length}
-use Rattle.limits.specs.Ranges.{byte, in52}
+use Rattle.ranges.specs.Ranges.{byte, in52}
 use Rattle.kinds.specs.Kinds.{Row, table, rowIn, oneOf, only, entries, allows, lengthOk, content}
 
 -- the refusal, by its length and its ranges

@@ -12,8 +12,8 @@ use lib.ListN.{length, take, drop, getD, set, replicate, length-append, length-d
 use lib.Seq.{set-at, append-snoc, take-all, take-add, take-suc, take-append-le, drop-append-le, drop-at, getD-at, getD-take, getD-drop, length-take-le}
 use Rattle.octets.specs.Placing.{placed}
 use Rattle.octets.proofs.PlacingLaws.{length-placed, placed-more}
-use Rattle.limits.specs.Ranges.{byte}
-use Rattle.encoding.proofs.WrittenLaws.{placed-back}
+use Rattle.ranges.specs.Ranges.{byte}
+use Rattle.octets.proofs.DeliveryLaws.{placed-back}
 use Rattle.encoding.specs.Entries.{firsts, joined}
 
 pub length-firsts : {A : Type 0} (f : ℕ → A) (n : ℕ) → length (firsts f n) ≡ n

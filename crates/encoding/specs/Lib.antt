@@ -1,2 +1,2 @@
-pub mod Written
+pub mod Encoding
 pub mod Entries

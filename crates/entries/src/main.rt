@@ -7,7 +7,7 @@
 // and the fields are encoded into so many bytes of a buffer of 5A. Such a line has the refusal of the data and, where there is none,
 // the number of entries and each entry; then the refusal and the length of the encoding, and last the buffer up to four bytes past the
 // room. A line of lookup has the index, none, or the refusal.
-use encoding::Written;
+use octets::Written;
 use fields_47::Use;
 use fields_47::Uses;
 use fields_52::Entry;
@@ -32,7 +32,7 @@ fn size(n: usize) {
 }
 
 fn int8(z: i8) {
-    let b = signed::int8_byte(z);
+    let b = numbers::int8_byte(z);
     if z < 0 {
         io::write_all(1, b" -");
         io::print_decimal(1, 256 - b as u64);
@@ -155,7 +155,7 @@ fn changed_entry(e: Entry, which: u8, value: u8) -> Entry {
             g
         }
         4 => {
-            g.carrier = signed::int8_of(value);
+            g.carrier = numbers::int8_of(value);
             g
         }
         5 => {

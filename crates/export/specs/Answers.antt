@@ -2,7 +2,7 @@
 use mathlib.Core.Bool.{cond}
 use Prim.Native.Nat.{ℕ, _-_, _^_}
 use lib.Dec.{eqb}
-use Rattle.encoding.specs.declared.Written.{Written}
+use Rattle.octets.specs.declared.Written.{Written}
 
 abbrev pub answerOf : Written → ℕ
 answerOf w = cond (eqb (w .refusal) 0) (w .length) (2 ^ 64 - w .refusal)

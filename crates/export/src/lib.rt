@@ -2,13 +2,13 @@
 //
 // A call that fills a buffer returns one number: the length, or where it is refused 2^64 less the refusal's number, which a caller
 // who reads the number as signed sees as that number with a minus.
-use encoding::Written;
+use octets::Written;
 ghost use mathlib.Core.Path.{_≡_};
 ghost use Rattle.kinds.specs.Kinds.{content};
 ghost use Rattle.line.specs.Record.{fresh};
 ghost use Rattle.lister.specs.Counting.{countOf};
 ghost use Rattle.writer.specs.Writing as Writing;
-ghost use Rattle.whole.specs.Posts as Listing;
+ghost use Rattle.lister.specs.WholePosts as Listing;
 ghost use Rattle.export.specs.Answers.{answerOf};
 
 // A length, or a refusal, as one number.
@@ -27,15 +27,15 @@ pub extern "C" fn binr_list(mode: u8, bytes: &[u8], out: &mut [u8]) -> u64
     ensures { λ r. ⌜ (r ≡ answerOf (Listing.listedOf (fresh mode) (now (bytes .entry)) (now (out .entry))))
         × (now (out .exit) ≡ Listing.filledOf (fresh mode) (now (bytes .entry)) (now (out .entry))) ⌝ }
 {
-    let w = whole::list(mode, bytes, out);
+    let w = lister::list(mode, bytes, out);
     answer(w)
 }
 
 // The frame of a message in a mode.
 #[no_mangle]
 pub extern "C" fn binr_write(mode: u8, id: u8, body: &[u8], out: &mut [u8]) -> u64
-    ensures { λ r. ⌜ (r ≡ answerOf (Writing.writtenOf mode id (now (body .entry)) (now (out .entry))))
-        × (now (out .exit) ≡ Writing.filledOf mode id (now (body .entry)) (now (out .entry))) ⌝ }
+    ensures { λ r. ⌜ (r ≡ answerOf (Writing.frameWritten mode id (now (body .entry)) (now (out .entry))))
+        × (now (out .exit) ≡ Writing.frameFilled mode id (now (body .entry)) (now (out .entry))) ⌝ }
 {
     let w = writer::write(mode, id, body, out);
     answer(w)

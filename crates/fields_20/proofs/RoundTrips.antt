@@ -5,9 +5,9 @@ use Prim.Native.Nat.{ℕ, _≤_}
 use borrow.Author.Tests.{eq-eqb}
 use lib.ListN.{length, take}
 use Rattle.octets.specs.Placing.{placed}
-use Rattle.limits.specs.Ranges.{in20}
+use Rattle.ranges.specs.Ranges.{in20}
 use Rattle.kinds.specs.Kinds.{table, rowIn}
-use Rattle.encoding.specs.Written.{accepted}
+use Rattle.octets.specs.Delivery.{accepted}
 use Rattle.encoding.proofs.WrittenLaws.{written-judged, written-back, written-anew}
 use Rattle.encoding.proofs.AcceptedLaws.{one-length, spelled}
 use Rattle.fields_20.specs.declared.Satellite.{Satellite}

@@ -4,10 +4,10 @@ use mathlib.Core.Bool.{cond}
 use mathlib.Core.List.{List, [], _∷_}
 use Prim.Native.Nat.{ℕ}
 use lib.Dec.{eqb}
-use Rattle.limits.specs.Ranges.{byte}
+use Rattle.ranges.specs.Ranges.{byte}
 use Rattle.kinds.specs.Kinds.{content}
-use Rattle.encoding.specs.declared.Written.{Written}
-use Rattle.encoding.specs.Written.{writtenOf, filledOf}
+use Rattle.octets.specs.declared.Written.{Written}
+use Rattle.encoding.specs.Encoding.{encodedOf, encodedInto}
 use Rattle.fields_20.specs.declared.Satellite.{Satellite}
 use Rattle.fields_20.specs.declared.SatelliteRead.{SatelliteRead}
 
@@ -25,7 +25,7 @@ abbrev pub data20 : Satellite → List ℕ
 data20 f = f .system ∷ f .number ∷ []
 
 abbrev pub write20 : Satellite → List ℕ → Written
-write20 f b = writtenOf 0x20 (data20 f) b
+write20 f b = encodedOf 0x20 (data20 f) b
 
 abbrev pub fill20 : Satellite → List ℕ → List ℕ
-fill20 f b = filledOf 0x20 (data20 f) b
+fill20 f b = encodedInto 0x20 (data20 f) b

@@ -2,7 +2,7 @@
 // buffer, or refuses and leaves the buffer as it is.
 ghost use mathlib.Core.Path.{_≡_};
 ghost use Rattle.fields_20.specs.Fields.{read20, write20, fill20};
-use encoding::Written;
+use octets::Written;
 
 // 20h.
 pub struct Satellite {

@@ -7,7 +7,8 @@ use native.Mathlib.Omega.{arith}
 use borrow.Author.Tests.{leb-true}
 use lib.Dec.{leb}
 use Rattle.kinds.specs.Kinds.{table, rowIn, allows, lengthOk, content}
-use Rattle.encoding.specs.Written.{refused, writtenOf, filledOf}
+use Rattle.octets.specs.Delivery.{refused}
+use Rattle.encoding.specs.Encoding.{encodedOf, encodedInto}
 use Rattle.encoding.proofs.WrittenLaws.{refused-by}
 use Rattle.fields_23.specs.declared.Zone.{Zone}
 use Rattle.fields_23.specs.Fields.{data23, write23, fill23}
@@ -17,7 +18,7 @@ pub count-23 : (f : Zone) (b : List ℕ) → (f .count ≡ 0 → ⊥) → (f .co
 unfolding write23 fill23 content table rowIn lengthOk allows
 count-23 f b n m = go (leb (f .count) 2) refl
   where
-    go : (t : Bool) → leb (f .count) 2 ≡ t → (cond t (writtenOf 0x23 (data23 f) b) (refused 11) ≡ refused 11) × (cond t (filledOf 0x23 (data23 f) b) b ≡ b)
+    go : (t : Bool) → leb (f .count) 2 ≡ t → (cond t (encodedOf 0x23 (data23 f) b) (refused 11) ≡ refused 11) × (cond t (encodedInto 0x23 (data23 f) b) b ≡ b)
     go true e =
         let l = leb-true (f .count) 2 e in
         let c : f .count ≡ 1 = omega arith in

@@ -12,12 +12,14 @@ use lib.ListN.{length, take}
 use lib.Seq.{length-take-le}
 use lib.Signed.{mag}
 use Rattle.octets.specs.Placing.{placed}
-use Rattle.signed.specs.Signed.{signed}
-use Rattle.signed.proofs.SignedLaws.{signed-unsigned, unsigned-signed}
-use Rattle.limits.specs.Ranges.{byte, in23}
+use Rattle.numbers.specs.Signed.{signed}
+use Rattle.numbers.proofs.SignedLaws.{signed-unsigned, unsigned-signed}
+use Rattle.ranges.specs.Ranges.{byte, in23}
 use Rattle.kinds.specs.Kinds.{table, rowIn}
-use Rattle.encoding.specs.Written.{accepted, writtenOf}
-use Rattle.encoding.proofs.WrittenLaws.{asked, written-judged, written-back, written-anew}
+use Rattle.octets.specs.Delivery.{accepted}
+use Rattle.encoding.specs.Encoding.{encodedOf}
+use Rattle.octets.proofs.DeliveryLaws.{asked}
+use Rattle.encoding.proofs.WrittenLaws.{written-judged, written-back, written-anew}
 use Rattle.encoding.proofs.AcceptedLaws.{Bytes, two-lengths, spelled}
 use Rattle.fields_23.specs.declared.Zone.{Zone}
 use Rattle.fields_23.specs.Fields.{zoneOf, blank23, read23, data23, write23, fill23}
@@ -46,7 +48,7 @@ pub read-written-23 : (f : Zone) (b : List ℕ) → mag (f .hours) < 128 → mag
 unfolding read23 write23 fill23 table rowIn
 read-written-23 f b hh hm z =
     let d = data23 f in
-    let w = asked (leb (f .count) 2) (writtenOf 0x23 d b) 11 (λ e. omega arith) z in
+    let w = asked (leb (f .count) 2) (encodedOf 0x23 d b) 11 (λ e. omega arith) z in
     let j = written-judged 0x23 d b (w .1) in
     let n : length d ≡ f .count = length-take-le (f .count) _ (leb-true (f .count) 2 (w .0)) in
     let l : (f .count ≡ 0) ⊎ (f .count ≡ 2) = rw n at (two-lengths 0x23 0 2 in23 d refl (j .0)) in

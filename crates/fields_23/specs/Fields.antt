@@ -6,11 +6,12 @@ use Prim.Native.Nat.{ℕ}
 use lib.Dec.{eqb, leb}
 use lib.IntN.{pos}
 use lib.ListN.{length, take}
-use Rattle.signed.specs.Signed.{int8, unsigned}
-use Rattle.limits.specs.Ranges.{byte}
+use Rattle.numbers.specs.Signed.{int8, unsigned}
+use Rattle.ranges.specs.Ranges.{byte}
 use Rattle.kinds.specs.Kinds.{content}
-use Rattle.encoding.specs.declared.Written.{Written}
-use Rattle.encoding.specs.Written.{refused, writtenOf, filledOf}
+use Rattle.octets.specs.declared.Written.{Written}
+use Rattle.octets.specs.Delivery.{refused}
+use Rattle.encoding.specs.Encoding.{encodedOf, encodedInto}
 use Rattle.fields_23.specs.declared.Zone.{Zone}
 use Rattle.fields_23.specs.declared.ZoneRead.{ZoneRead}
 
@@ -29,7 +30,7 @@ abbrev pub data23 : Zone → List ℕ
 data23 f = take (f .count) (unsigned 8 (f .hours) ∷ unsigned 8 (f .minutes) ∷ [])
 
 unfoldable pub write23 : Zone → List ℕ → Written
-write23 f b = cond (leb (f .count) 2) (writtenOf 0x23 (data23 f) b) (refused 11)
+write23 f b = cond (leb (f .count) 2) (encodedOf 0x23 (data23 f) b) (refused 11)
 
 unfoldable pub fill23 : Zone → List ℕ → List ℕ
-fill23 f b = cond (leb (f .count) 2) (filledOf 0x23 (data23 f) b) b
+fill23 f b = cond (leb (f .count) 2) (encodedInto 0x23 (data23 f) b) b

@@ -2,7 +2,7 @@
 // buffer, or refuses and leaves the buffer as it is.
 ghost use mathlib.Core.Path.{_≡_};
 ghost use Rattle.fields_23.specs.Fields.{read23, write23, fill23};
-use encoding::Written;
+use octets::Written;
 
 // 23h: the zone, if the count of bytes is 2.
 pub struct Zone {
@@ -32,8 +32,8 @@ pub fn decode_23(body: &[u8]) -> ZoneRead
             fields: blank,
         };
     }
-    let hours = signed::int8_of(octets::byte_at(body, 0));
-    let minutes = signed::int8_of(octets::byte_at(body, 1));
+    let hours = numbers::int8_of(octets::byte_at(body, 0));
+    let minutes = numbers::int8_of(octets::byte_at(body, 1));
     let fields = Zone {
         count: body.len(),
         hours: hours,
@@ -56,6 +56,6 @@ pub fn encode_23(f: Zone, buf: &mut [u8]) -> Written
             length: 0,
         };
     }
-    let all = [signed::int8_byte(f.hours), signed::int8_byte(f.minutes)];
+    let all = [numbers::int8_byte(f.hours), numbers::int8_byte(f.minutes)];
     encoding::deliver(0x23, &all[..count], buf)
 }

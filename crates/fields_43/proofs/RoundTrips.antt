@@ -8,11 +8,13 @@ use borrow.Author.Tests.{eq-eqb, eqb-true, eqb-false, le-leb, leb-true}
 use lib.Dec.{eqb, leb}
 use lib.ListN.{length, take}
 use Rattle.octets.specs.Placing.{placed}
-use Rattle.limits.specs.Ranges.{all, byte, antenna, in43}
+use Rattle.ranges.specs.Ranges.{all, byte, antenna, in43}
 use Rattle.kinds.specs.Kinds.{table, rowIn, only, content}
-use Rattle.limits.proofs.CountLaws.{all-at}
-use Rattle.encoding.specs.Written.{accepted, writtenOf}
-use Rattle.encoding.proofs.WrittenLaws.{asked, written-judged, written-back, written-anew}
+use Rattle.ranges.proofs.CountLaws.{all-at}
+use Rattle.octets.specs.Delivery.{accepted}
+use Rattle.encoding.specs.Encoding.{encodedOf}
+use Rattle.octets.proofs.DeliveryLaws.{asked}
+use Rattle.encoding.proofs.WrittenLaws.{written-judged, written-back, written-anew}
 use Rattle.encoding.proofs.AcceptedLaws.{Bytes, accepted-parts, one-length, spelled}
 use Rattle.fields_43.specs.declared.Outcome.{Outcome}
 use Rattle.fields_43.specs.Fields.{resultOf, read43, bitOf, resultByte, data43, room43, write43, fill43}
@@ -71,7 +73,7 @@ pub read-written-43 : (f : Outcome) (b : List ℕ) → write43 f b .refusal ≡ 
 unfolding read43 write43 fill43
 read-written-43 f b z =
     let d = data43 f in
-    let w = asked (room43 f) (writtenOf 0x43 d b) 12 (λ e. omega arith) z in
+    let w = asked (room43 f) (encodedOf 0x43 d b) 12 (λ e. omega arith) z in
     let j = written-judged 0x43 d b (w .1) in
     rw (w .0, written-back 0x43 d b (w .1), eq-eqb _ _ (j .0), j .0, result-kept f (w .0))
 

@@ -4,10 +4,11 @@ use mathlib.Core.Bool.{Bool, false, cond, _&&_}
 use mathlib.Core.List.{List, [], _∷_}
 use Prim.Native.Nat.{ℕ, _+_, _*_, _/_, _%_}
 use lib.Dec.{eqb, leb}
-use Rattle.limits.specs.Ranges.{byte, antenna}
+use Rattle.ranges.specs.Ranges.{byte, antenna}
 use Rattle.kinds.specs.Kinds.{content}
-use Rattle.encoding.specs.declared.Written.{Written}
-use Rattle.encoding.specs.Written.{refused, writtenOf, filledOf}
+use Rattle.octets.specs.declared.Written.{Written}
+use Rattle.octets.specs.Delivery.{refused}
+use Rattle.encoding.specs.Encoding.{encodedOf, encodedInto}
 use Rattle.fields_43.specs.declared.Outcome.{Outcome}
 use Rattle.fields_43.specs.declared.OutcomeRead.{OutcomeRead}
 
@@ -40,7 +41,7 @@ abbrev pub room43 : Outcome → Bool
 room43 f = leb (f .antenna) 3 && leb (f .low) 15
 
 unfoldable pub write43 : Outcome → List ℕ → Written
-write43 f b = cond (room43 f) (writtenOf 0x43 (data43 f) b) (refused 12)
+write43 f b = cond (room43 f) (encodedOf 0x43 (data43 f) b) (refused 12)
 
 unfoldable pub fill43 : Outcome → List ℕ → List ℕ
-fill43 f b = cond (room43 f) (filledOf 0x43 (data43 f) b) b
+fill43 f b = cond (room43 f) (encodedInto 0x43 (data43 f) b) b

@@ -3,7 +3,7 @@
 ghost use mathlib.Core.Path.{_≡_};
 ghost use Prim.Native.Nat.{_≤_};
 ghost use Rattle.fields_43.specs.Fields.{resultOf, bitOf, resultByte, read43, write43, fill43};
-use encoding::Written;
+use octets::Written;
 
 // 43h: the result byte's parts.
 pub struct Outcome {

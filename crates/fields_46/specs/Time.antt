@@ -4,7 +4,7 @@ use mathlib.Core.List.{List, [], _∷_}
 use Prim.Native.Nat.{ℕ}
 use lib.Dec.{eqb}
 use Rattle.kinds.specs.Kinds.{content}
-use Rattle.types.specs.Types.{int8uAt, int8sAt, int16uAt, int32uAt}
+use Rattle.numbers.specs.Types.{int8uAt, int8sAt, int16uAt, int32uAt}
 use Rattle.rows.specs.Layout.{Row, INT8U, INT8S, INT16U, INT32U, joined}
 use Rattle.fields_46.specs.declared.Time.{Time}
 use Rattle.fields_46.specs.declared.Decoded46.{Decoded46}

@@ -1,9 +1,9 @@
 // 46h, time, date and zone, as fields and as data.
 // Decoding gives the fields of acceptable data; where the data is refused the fields are those of no data, all 0. Encoding lays the
 // fields out and delivers them, so that fields out of range are refused as their data would be.
-use encoding::Written;
+use octets::Written;
 ghost use mathlib.Core.Path.{_≡_};
-ghost use Rattle.encoding.specs.Written.{writtenOf, filledOf};
+ghost use Rattle.encoding.specs.Encoding.{encodedOf, encodedInto};
 ghost use Rattle.rows.specs.Layout.{words};
 ghost use Rattle.fields_46.specs.Time.{timeOf, timeRows, bytes46, decoded46};
 
@@ -27,11 +27,11 @@ fn read_46(body: &[u8]) -> Time
 {
     Time {
         second: numbers::u32_at(body, 0),
-        day: types::int8u_at(body, 4),
-        month: types::int8u_at(body, 5),
+        day: numbers::int8u_at(body, 4),
+        month: numbers::int8u_at(body, 5),
         year: numbers::u16_at(body, 6),
-        hours: types::int8s_at(body, 8),
-        minutes: types::int8s_at(body, 9),
+        hours: numbers::int8s_at(body, 8),
+        minutes: numbers::int8s_at(body, 9),
     }
 }
 
@@ -61,14 +61,14 @@ fn words_46(f: Time) -> [u64; 6]
         f.day as u64,
         f.month as u64,
         f.year as u64,
-        signed::int8_byte(f.hours) as u64,
-        signed::int8_byte(f.minutes) as u64,
+        numbers::int8_byte(f.hours) as u64,
+        numbers::int8_byte(f.minutes) as u64,
     ]
 }
 
 pub fn encode_46(f: Time, buf: &mut [u8]) -> Written
-    ensures { λ r. ⌜ (r ≡ writtenOf 0x46 (bytes46 f) (now (buf .entry)))
-        × (now (buf .exit) ≡ filledOf 0x46 (bytes46 f) (now (buf .entry))) ⌝ }
+    ensures { λ r. ⌜ (r ≡ encodedOf 0x46 (bytes46 f) (now (buf .entry)))
+        × (now (buf .exit) ≡ encodedInto 0x46 (bytes46 f) (now (buf .entry))) ⌝ }
 {
     rows::encode(0x46, &words_46(f), &WIDTHS_46, buf)
 }

@@ -8,9 +8,9 @@ use borrow.Author.Tests.{eq-eqb}
 use lib.ListN.{length, take, drop}
 use lib.Seq.{take-length}
 use Rattle.octets.specs.Placing.{placed}
-use Rattle.limits.specs.Ranges.{byte, in47}
+use Rattle.ranges.specs.Ranges.{byte, in47}
 use Rattle.kinds.specs.Kinds.{table, rowIn}
-use Rattle.encoding.specs.Written.{accepted}
+use Rattle.octets.specs.Delivery.{accepted}
 use Rattle.encoding.proofs.WrittenLaws.{written-judged, written-back, written-anew}
 use Rattle.encoding.proofs.AcceptedLaws.{one-length, spelled}
 use Rattle.encoding.specs.Entries.{firsts}

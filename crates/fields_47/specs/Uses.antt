@@ -4,10 +4,10 @@ use mathlib.Core.List.{List, [], _∷_, _++_}
 use Prim.Native.Nat.{ℕ, _+_, _-_, _*_}
 use lib.Dec.{eqb}
 use lib.ListN.{getD, replicate}
-use Rattle.limits.specs.Ranges.{byte}
+use Rattle.ranges.specs.Ranges.{byte}
 use Rattle.kinds.specs.Kinds.{content}
-use Rattle.encoding.specs.declared.Written.{Written}
-use Rattle.encoding.specs.Written.{writtenOf, filledOf}
+use Rattle.octets.specs.declared.Written.{Written}
+use Rattle.encoding.specs.Encoding.{encodedOf, encodedInto}
 use Rattle.encoding.specs.Entries.{firsts, joined}
 use Rattle.fields_47.specs.declared.Use.{Use}
 use Rattle.fields_47.specs.declared.Uses.{Uses}
@@ -37,7 +37,7 @@ usesData us = joined (λ i. useData (getD us i noUse)) 56
 
 -- from fields: as its data is written
 abbrev pub write47 : Uses → List ℕ → Written
-write47 f b = writtenOf 0x47 (usesData (f .triples)) b
+write47 f b = encodedOf 0x47 (usesData (f .triples)) b
 
 abbrev pub fill47 : Uses → List ℕ → List ℕ
-fill47 f b = filledOf 0x47 (usesData (f .triples)) b
+fill47 f b = encodedInto 0x47 (usesData (f .triples)) b

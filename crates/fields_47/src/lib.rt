@@ -96,7 +96,7 @@ fn uses_data(triples: [Use; 56]) -> [u8; 168]
 }
 
 // The data of 47h from its fields.
-pub fn encode_47(f: Uses, buf: &mut [u8]) -> encoding::Written
+pub fn encode_47(f: Uses, buf: &mut [u8]) -> octets::Written
     ensures { λ r. ⌜ (r ≡ write47 f (now (buf .entry))) × (now (buf .exit) ≡ fill47 f (now (buf .entry))) ⌝ }
 {
     let triples = f.triples;

@@ -1,1 +1,3 @@
 pub mod RoundTrips
+pub mod GlonassTrips
+pub mod GpsTrips

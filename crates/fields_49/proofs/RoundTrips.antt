@@ -2,17 +2,17 @@
 use mathlib.Core.Path.{_≡_, ap}
 use mathlib.Core.List.{[]}
 use Rattle.kinds.specs.Kinds.{content}
-use Rattle.types.specs.Types.{int8uAt}
+use Rattle.numbers.specs.Types.{int8uAt}
 use Rattle.rows.specs.Layout.{AllHeld}
-use Rattle.fields_49_gps.specs.Gps.{gpsRows, bytesGps}
-use Rattle.fields_49_glonass.specs.Glonass.{glonassRows, bytesGlonass}
+use Rattle.fields_49.specs.Gps.{gpsRows, bytesGps}
+use Rattle.fields_49.specs.Glonass.{glonassRows, bytesGlonass}
 use Rattle.fields_49.specs.Ephemeris.{ephemerisOf}
-use Rattle.fields_49_gps.specs.declared.Gps.{Gps}
-use Rattle.fields_49_glonass.specs.declared.Glonass.{Glonass}
+use Rattle.fields_49.specs.declared.Gps.{Gps}
+use Rattle.fields_49.specs.declared.Glonass.{Glonass}
 use Rattle.fields_49.specs.declared.Ephemeris.{Ephemeris}
 use Rattle.rows.proofs.RowLaws.{nat, readRows, read-joined}
-use Rattle.fields_49_gps.proofs.RoundTrips.{read-written-gps}
-use Rattle.fields_49_glonass.proofs.RoundTrips.{read-written-glonass}
+use Rattle.fields_49.proofs.GpsTrips.{read-written-gps}
+use Rattle.fields_49.proofs.GlonassTrips.{read-written-glonass}
 
 pub decoded-written-gps : (f : Gps) → AllHeld (gpsRows f) → content 0x49 (bytesGps f) ≡ 0 → ephemerisOf (bytesGps f) ≡ Ephemeris.Gps f
 unfolding ephemerisOf bytesGps readRows

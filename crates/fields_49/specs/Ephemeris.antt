@@ -4,12 +4,12 @@ use mathlib.Core.List.{List}
 use Prim.Native.Nat.{ℕ}
 use lib.Dec.{eqb}
 use Rattle.kinds.specs.Kinds.{content}
-use Rattle.types.specs.Types.{int8uAt}
-use Rattle.fields_49_gps.specs.declared.Gps.{Gps}
-use Rattle.fields_49_glonass.specs.declared.Glonass.{Glonass}
+use Rattle.numbers.specs.Types.{int8uAt}
+use Rattle.fields_49.specs.declared.Gps.{Gps}
+use Rattle.fields_49.specs.declared.Glonass.{Glonass}
 use Rattle.fields_49.specs.declared.Ephemeris.{Ephemeris}
-use Rattle.fields_49_gps.specs.Gps.{gpsOf}
-use Rattle.fields_49_glonass.specs.Glonass.{glonassOf}
+use Rattle.fields_49.specs.Gps.{gpsOf}
+use Rattle.fields_49.specs.Glonass.{glonassOf}
 
 -- acceptable data has the first byte 1 or 2
 unfoldable pub ephemerisOf : List ℕ → Ephemeris

@@ -1,1 +1,3 @@
 pub mod Ephemeris
+pub mod Glonass
+pub mod Gps

@@ -1,16 +1,168 @@
 // 49h, the ephemeris of a satellite, as fields: those of acceptable data, or the refusal.
+// 49h data of a GLONASS satellite: its fields and its layout. Encoding lays the fields out and delivers them, so that fields out of
+// range are refused as their data would be. FP fields are kept as their bits.
+// 49h data of a GPS satellite: its fields and its layout. Encoding lays the fields out and delivers them, so that fields out of
+// range are refused as their data would be. FP fields are kept as their bits.
+use octets::Written;
 ghost use mathlib.Core.Path.{_≡_};
-ghost use Rattle.fields_49_gps.specs.Gps.{gpsOf};
-ghost use Rattle.fields_49_glonass.specs.Glonass.{glonassOf};
+ghost use Rattle.encoding.specs.Encoding.{encodedOf, encodedInto};
+ghost use Rattle.rows.specs.Layout.{words};
+ghost use Rattle.fields_49.specs.Gps.{gpsRows, bytesGps};
+ghost use Rattle.fields_49.specs.Glonass.{glonassRows, bytesGlonass, glonassOf};
+ghost use Rattle.fields_49.specs.Gps.{gpsOf};
 ghost use Rattle.fields_49.specs.Ephemeris.{ephemerisOf};
-use fields_49_glonass::Glonass;
-use fields_49_gps::Gps;
+
+// 49h: ephemeris of a GPS satellite, first byte 1 (000, Table 39).
+pub struct Gps {
+    pub prn: u8, // the satellite
+    pub crs: u32,
+    pub delta_n: u32,
+    pub m0: u64,
+    pub cuc: u32,
+    pub e: u64,
+    pub cus: u32,
+    pub sqrt_a: u64,
+    pub toe: u64,
+    pub cic: u32,
+    pub omega0: u64,
+    pub cis: u32,
+    pub i0: u64,
+    pub crc: u32,
+    pub omega: u64,
+    pub omega_dot: u64,
+    pub idot: u64,
+    pub tgd: u32,
+    pub toc: u64,
+    pub af2: u32,
+    pub af1: u32,
+    pub af0: u32,
+    pub ura: u16,
+    pub iode: u16,
+}
+
+const WIDTHS_GPS: [usize; 25] = [
+    1,
+    1,
+    4,
+    4,
+    8,
+    4,
+    8,
+    4,
+    8,
+    8,
+    4,
+    8,
+    4,
+    8,
+    4,
+    8,
+    8,
+    8,
+    4,
+    8,
+    4,
+    4,
+    4,
+    2,
+    2,
+];
+
+fn words_gps(f: Gps) -> [u64; 25]
+    ensures { λ r. ⌜ r ≡ words (gpsRows f) ⌝ }
+{
+    [
+        1,
+        f.prn as u64,
+        f.crs as u64,
+        f.delta_n as u64,
+        f.m0,
+        f.cuc as u64,
+        f.e,
+        f.cus as u64,
+        f.sqrt_a,
+        f.toe,
+        f.cic as u64,
+        f.omega0,
+        f.cis as u64,
+        f.i0,
+        f.crc as u64,
+        f.omega,
+        f.omega_dot,
+        f.idot,
+        f.tgd as u64,
+        f.toc,
+        f.af2 as u64,
+        f.af1 as u64,
+        f.af0 as u64,
+        f.ura as u64,
+        f.iode as u64,
+    ]
+}
+
+pub fn encode_gps(f: Gps, buf: &mut [u8]) -> Written
+    ensures { λ r. ⌜ (r ≡ encodedOf 0x49 (bytesGps f) (now (buf .entry)))
+        × (now (buf .exit) ≡ encodedInto 0x49 (bytesGps f) (now (buf .entry))) ⌝ }
+{
+    rows::encode(0x49, &words_gps(f), &WIDTHS_GPS, buf)
+}
+
+// 49h: ephemeris of a GLONASS satellite, first byte 2 (000, Table 39).
+pub struct Glonass {
+    pub number: u8, // n^A, the satellite; 0: unknown
+    pub carrier: i8, // H_n^A
+    pub x: u64, // coordinates
+    pub y: u64,
+    pub z: u64,
+    pub vx: u64, // speeds
+    pub vy: u64,
+    pub vz: u64,
+    pub ax: u64, // accelerations
+    pub ay: u64,
+    pub az: u64,
+    pub tb: u64, // the time in the day
+    pub gamma: u32,
+    pub tau: u32,
+    pub age: u16, // E_n
+}
+
+const WIDTHS_GLONASS: [usize; 16] = [1, 1, 1, 8, 8, 8, 8, 8, 8, 8, 8, 8, 8, 4, 4, 2];
+
+fn words_glonass(f: Glonass) -> [u64; 16]
+    ensures { λ r. ⌜ r ≡ words (glonassRows f) ⌝ }
+{
+    [
+        2,
+        f.number as u64,
+        numbers::int8_byte(f.carrier) as u64,
+        f.x,
+        f.y,
+        f.z,
+        f.vx,
+        f.vy,
+        f.vz,
+        f.ax,
+        f.ay,
+        f.az,
+        f.tb,
+        f.gamma as u64,
+        f.tau as u64,
+        f.age as u64,
+    ]
+}
+
+pub fn encode_glonass(f: Glonass, buf: &mut [u8]) -> Written
+    ensures { λ r. ⌜ (r ≡ encodedOf 0x49 (bytesGlonass f) (now (buf .entry)))
+        × (now (buf .exit) ≡ encodedInto 0x49 (bytesGlonass f) (now (buf .entry))) ⌝ }
+{
+    rows::encode(0x49, &words_glonass(f), &WIDTHS_GLONASS, buf)
+}
 
 fn read_gps(body: &[u8]) -> Gps
     ensures { λ r. ⌜ r ≡ gpsOf (now (body .entry)) ⌝ }
 {
     Gps {
-        prn: types::int8u_at(body, 1),
+        prn: numbers::int8u_at(body, 1),
         crs: numbers::u32_at(body, 2),
         delta_n: numbers::u32_at(body, 6),
         m0: numbers::u64_at(body, 10),
@@ -41,8 +193,8 @@ fn read_glonass(body: &[u8]) -> Glonass
     ensures { λ r. ⌜ r ≡ glonassOf (now (body .entry)) ⌝ }
 {
     Glonass {
-        number: types::int8u_at(body, 1),
-        carrier: types::int8s_at(body, 2),
+        number: numbers::int8u_at(body, 1),
+        carrier: numbers::int8s_at(body, 2),
         x: numbers::u64_at(body, 3),
         y: numbers::u64_at(body, 11),
         z: numbers::u64_at(body, 19),
@@ -72,7 +224,7 @@ pub fn decode_49(body: &[u8]) -> Ephemeris
     if refusal != 0 {
         return Ephemeris::Refused(refusal);
     }
-    if types::int8u_at(body, 0) == 1 {
+    if numbers::int8u_at(body, 0) == 1 {
         return Ephemeris::Gps(read_gps(body));
     }
     Ephemeris::Glonass(read_glonass(body))

@@ -4,7 +4,7 @@ use mathlib.Core.List.{List, [], _∷_}
 use Prim.Native.Nat.{ℕ}
 use lib.Dec.{eqb}
 use Rattle.kinds.specs.Kinds.{content}
-use Rattle.types.specs.Types.{int8uAt, fp32At}
+use Rattle.numbers.specs.Types.{int8uAt, fp32At}
 use Rattle.rows.specs.Layout.{Row, INT8U, FP32, joined}
 use Rattle.fields_4a.specs.declared.Ionosphere.{Ionosphere}
 use Rattle.fields_4a.specs.declared.Decoded4a.{Decoded4a}

@@ -1,9 +1,9 @@
 // 4Ah, ionosphere parameters, as fields and as data.
 // Decoding gives the fields of acceptable data; where the data is refused the fields are those of no data, all 0. Encoding lays the
 // fields out and delivers them, so that fields out of range are refused as their data would be. FP fields are kept as their bits.
-use encoding::Written;
+use octets::Written;
 ghost use mathlib.Core.Path.{_≡_};
-ghost use Rattle.encoding.specs.Written.{writtenOf, filledOf};
+ghost use Rattle.encoding.specs.Encoding.{encodedOf, encodedInto};
 ghost use Rattle.rows.specs.Layout.{words};
 ghost use Rattle.fields_4a.specs.Ionosphere.{ionosphereOf, ionosphereRows, bytes4A, decoded4A};
 
@@ -37,7 +37,7 @@ fn read_4a(body: &[u8]) -> Ionosphere
         beta1: numbers::u32_at(body, 20),
         beta2: numbers::u32_at(body, 24),
         beta3: numbers::u32_at(body, 28),
-        reliable: types::int8u_at(body, 32),
+        reliable: numbers::int8u_at(body, 32),
     }
 }
 
@@ -76,8 +76,8 @@ fn words_4a(f: Ionosphere) -> [u64; 9]
 }
 
 pub fn encode_4a(f: Ionosphere, buf: &mut [u8]) -> Written
-    ensures { λ r. ⌜ (r ≡ writtenOf 0x4A (bytes4A f) (now (buf .entry)))
-        × (now (buf .exit) ≡ filledOf 0x4A (bytes4A f) (now (buf .entry))) ⌝ }
+    ensures { λ r. ⌜ (r ≡ encodedOf 0x4A (bytes4A f) (now (buf .entry)))
+        × (now (buf .exit) ≡ encodedInto 0x4A (bytes4A f) (now (buf .entry))) ⌝ }
 {
     rows::encode(0x4A, &words_4a(f), &WIDTHS_4A, buf)
 }

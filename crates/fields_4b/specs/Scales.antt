@@ -5,7 +5,7 @@ use mathlib.Core.List.{List, [], _∷_}
 use Prim.Native.Nat.{ℕ}
 use lib.Dec.{eqb}
 use Rattle.kinds.specs.Kinds.{content}
-use Rattle.types.specs.Types.{int8uAt, int16uAt, int16sAt, int32uAt, fp64At}
+use Rattle.numbers.specs.Types.{int8uAt, int16uAt, int16sAt, int32uAt, fp64At}
 use Rattle.rows.specs.Layout.{Row, INT8U, INT16U, INT16S, INT32U, FP64, joined}
 use Rattle.fields_4b.specs.declared.Scales.{Scales}
 use Rattle.fields_4b.specs.declared.Decoded4b.{Decoded4b}

@@ -1,9 +1,9 @@
 // 4Bh, GPS, GLONASS and UTC time scales, as fields and as data.
 // Decoding gives the fields of acceptable data; where the data is refused the fields are those of no data, all 0. Encoding lays the
 // fields out and delivers them, so that fields out of range are refused as their data would be. FP fields are kept as their bits.
-use encoding::Written;
+use octets::Written;
 ghost use mathlib.Core.Path.{_≡_};
-ghost use Rattle.encoding.specs.Written.{writtenOf, filledOf};
+ghost use Rattle.encoding.specs.Encoding.{encodedOf, encodedInto};
 ghost use Rattle.rows.specs.Layout.{words};
 ghost use Rattle.fields_4b.specs.Scales.{scalesOf, scalesRows, bytes4B, decoded4B};
 
@@ -36,14 +36,14 @@ fn read_4b(body: &[u8]) -> Scales
         a1: numbers::u64_at(body, 8),
         tot: numbers::u32_at(body, 16),
         wnt: numbers::u16_at(body, 20),
-        dt_ls: signed::int16_of(numbers::u16_at(body, 22)),
+        dt_ls: numbers::int16_of(numbers::u16_at(body, 22)),
         wn_lsf: numbers::u16_at(body, 24),
         dn: numbers::u16_at(body, 26),
-        dt_lsf: signed::int16_of(numbers::u16_at(body, 28)),
-        gps_reliable: types::int8u_at(body, 30),
+        dt_lsf: numbers::int16_of(numbers::u16_at(body, 28)),
+        gps_reliable: numbers::int8u_at(body, 30),
         na: numbers::u16_at(body, 31),
         tau_c: numbers::u64_at(body, 33),
-        glonass_reliable: types::int8u_at(body, 41),
+        glonass_reliable: numbers::int8u_at(body, 41),
     }
 }
 
@@ -73,10 +73,10 @@ fn words_4b(f: Scales) -> [u64; 12]
         f.a1,
         f.tot as u64,
         f.wnt as u64,
-        signed::int16_word(f.dt_ls) as u64,
+        numbers::int16_word(f.dt_ls) as u64,
         f.wn_lsf as u64,
         f.dn as u64,
-        signed::int16_word(f.dt_lsf) as u64,
+        numbers::int16_word(f.dt_lsf) as u64,
         f.gps_reliable as u64,
         f.na as u64,
         f.tau_c,
@@ -85,8 +85,8 @@ fn words_4b(f: Scales) -> [u64; 12]
 }
 
 pub fn encode_4b(f: Scales, buf: &mut [u8]) -> Written
-    ensures { λ r. ⌜ (r ≡ writtenOf 0x4B (bytes4B f) (now (buf .entry)))
-        × (now (buf .exit) ≡ filledOf 0x4B (bytes4B f) (now (buf .entry))) ⌝ }
+    ensures { λ r. ⌜ (r ≡ encodedOf 0x4B (bytes4B f) (now (buf .entry)))
+        × (now (buf .exit) ≡ encodedInto 0x4B (bytes4B f) (now (buf .entry))) ⌝ }
 {
     rows::encode(0x4B, &words_4b(f), &WIDTHS_4B, buf)
 }

@@ -12,12 +12,14 @@ use lib.Seq.{drop-cons, take-length}
 use lib.Signed.{mag}
 use Rattle.numbers.specs.Number.{numberOf, numberAt}
 use Rattle.octets.specs.Placing.{placed}
-use Rattle.signed.specs.Signed.{int8}
+use Rattle.numbers.specs.Signed.{int8}
 use Rattle.numbers.proofs.NumberLaws.{number-in}
-use Rattle.signed.proofs.SignedLaws.{signed-unsigned, unsigned-signed}
-use Rattle.limits.specs.Ranges.{byte}
-use Rattle.encoding.specs.Written.{accepted, writtenOf}
-use Rattle.encoding.proofs.WrittenLaws.{asked, written-judged, written-back, written-anew}
+use Rattle.numbers.proofs.SignedLaws.{signed-unsigned, unsigned-signed}
+use Rattle.ranges.specs.Ranges.{byte}
+use Rattle.octets.specs.Delivery.{accepted}
+use Rattle.encoding.specs.Encoding.{encodedOf}
+use Rattle.octets.proofs.DeliveryLaws.{asked}
+use Rattle.encoding.proofs.WrittenLaws.{written-judged, written-back, written-anew}
 use Rattle.encoding.proofs.AcceptedLaws.{Bytes, entries-52, spelled}
 use Rattle.encoding.specs.Entries.{firsts}
 use Rattle.encoding.proofs.EntryLaws.{in-piece, first-in-piece, piece-length, length-joined, read-rows, write-rows}
@@ -81,7 +83,7 @@ pub read-written-52 : (f : Visible) (b : List ℕ) → length (f .entries) ≡ 7
 unfolding read52 write52 fill52
 read-written-52 f b l t z =
     let d = data52 f in
-    let w = asked (leb (f .n) 75) (writtenOf 0x52 d b) 11 (λ e. omega arith) z in
+    let w = asked (leb (f .n) 75) (encodedOf 0x52 d b) 11 (λ e. omega arith) z in
     let j = written-judged 0x52 d b (w .1) in
     let n : length d / 7 ≡ f .n = omega (arith, length-joined (λ i. entryData (getD (f .entries) i blank)) 7 (λ _. refl) (f .n)) in
     let r : firsts (entryOf d) (f .n) ≡ take (f .n) (f .entries) =

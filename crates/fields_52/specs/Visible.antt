@@ -6,11 +6,12 @@ use lib.Dec.{eqb, leb}
 use lib.IntN.{pos}
 use lib.ListN.{length, getD, replicate}
 use Rattle.numbers.specs.Number.{numberAt}
-use Rattle.signed.specs.Signed.{int8, unsigned}
-use Rattle.limits.specs.Ranges.{byte}
+use Rattle.numbers.specs.Signed.{int8, unsigned}
+use Rattle.ranges.specs.Ranges.{byte}
 use Rattle.kinds.specs.Kinds.{content}
-use Rattle.encoding.specs.declared.Written.{Written}
-use Rattle.encoding.specs.Written.{refused, writtenOf, filledOf}
+use Rattle.octets.specs.declared.Written.{Written}
+use Rattle.octets.specs.Delivery.{refused}
+use Rattle.encoding.specs.Encoding.{encodedOf, encodedInto}
 use Rattle.encoding.specs.Entries.{firsts, joined}
 use Rattle.fields_52.specs.declared.Entry.{Entry}
 use Rattle.fields_52.specs.declared.Visible.{Visible}
@@ -58,7 +59,7 @@ data52 f = entriesData (f .entries) (f .n)
 
 -- from fields: 11 of more than 75 entries, else as its data is written
 unfoldable pub write52 : Visible → List ℕ → Written
-write52 f b = cond (leb (f .n) 75) (writtenOf 0x52 (data52 f) b) (refused 11)
+write52 f b = cond (leb (f .n) 75) (encodedOf 0x52 (data52 f) b) (refused 11)
 
 unfoldable pub fill52 : Visible → List ℕ → List ℕ
-fill52 f b = cond (leb (f .n) 75) (filledOf 0x52 (data52 f) b) b
+fill52 f b = cond (leb (f .n) 75) (encodedInto 0x52 (data52 f) b) b

@@ -35,7 +35,7 @@ fn entry_at(body: &[u8], i: usize) -> Entry
     Entry {
         system: octets::byte_at(body, at),
         number: octets::byte_at(body, at + 1),
-        carrier: signed::int8_of(octets::byte_at(body, at + 2)),
+        carrier: numbers::int8_of(octets::byte_at(body, at + 2)),
         elevation: octets::byte_at(body, at + 3),
         azimuth: numbers::u16_at(body, at + 4),
         signal: octets::byte_at(body, at + 6),
@@ -90,7 +90,7 @@ pub fn decode_52(body: &[u8]) -> VisibleRead
 fn entry_data(e: Entry) -> [u8; 7]
     ensures { λ r. ⌜ r ≡ entryData e ⌝ }
 {
-    let carrier = signed::int8_byte(e.carrier);
+    let carrier = numbers::int8_byte(e.carrier);
     [
         e.system,
         e.number,
@@ -119,13 +119,13 @@ fn entries_data(entries: [Entry; 75], n: usize) -> [u8; 525]
 }
 
 // The data of 52h from its fields. More than 75 entries are refused; those past n are ignored.
-pub fn encode_52(f: Visible, buf: &mut [u8]) -> encoding::Written
+pub fn encode_52(f: Visible, buf: &mut [u8]) -> octets::Written
     ensures { λ r. ⌜ (r ≡ write52 f (now (buf .entry))) × (now (buf .exit) ≡ fill52 f (now (buf .entry))) ⌝ }
 {
     let n = f.n;
     let entries = f.entries;
     if 75 < n {
-        return encoding::Written {
+        return octets::Written {
             refusal: 11,
             length: 0,
         };

@@ -4,7 +4,7 @@ use mathlib.Core.List.{List, [], _∷_}
 use Prim.Native.Nat.{ℕ}
 use lib.Dec.{eqb}
 use Rattle.kinds.specs.Kinds.{content}
-use Rattle.types.specs.Types.{int8uAt, int16uAt, fp32At, fp64At}
+use Rattle.numbers.specs.Types.{int8uAt, int16uAt, fp32At, fp64At}
 use Rattle.rows.specs.Layout.{Row, INT8U, INT16U, FP32, FP64, joined}
 use Rattle.fields_eb.specs.declared.GlonassTime.{GlonassTime}
 use Rattle.fields_eb.specs.declared.DecodedEb.{DecodedEb}

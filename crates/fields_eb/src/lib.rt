@@ -1,9 +1,9 @@
 // EBh, GLONASS time scale parameters, as fields and as data.
 // Decoding gives the fields of acceptable data; where the data is refused the fields are those of no data, all 0. Encoding lays the
 // fields out and delivers them, so that fields out of range are refused as their data would be. FP fields are kept as their bits.
-use encoding::Written;
+use octets::Written;
 ghost use mathlib.Core.Path.{_≡_};
-ghost use Rattle.encoding.specs.Written.{writtenOf, filledOf};
+ghost use Rattle.encoding.specs.Encoding.{encodedOf, encodedInto};
 ghost use Rattle.rows.specs.Layout.{words};
 ghost use Rattle.fields_eb.specs.GlonassTime.{glonassTimeOf, glonassTimeRows, bytesEB, decodedEB};
 
@@ -32,12 +32,12 @@ fn read_eb(body: &[u8]) -> GlonassTime
         tau_c: numbers::u64_at(body, 0),
         tau_gps: numbers::u32_at(body, 8),
         na: numbers::u16_at(body, 12),
-        n4: types::int8u_at(body, 14),
-        reliable: types::int8u_at(body, 15),
-        kp: types::int8u_at(body, 16),
+        n4: numbers::int8u_at(body, 14),
+        reliable: numbers::int8u_at(body, 15),
+        kp: numbers::int8u_at(body, 16),
         b1: numbers::u32_at(body, 17),
         b2: numbers::u32_at(body, 21),
-        ut1_reliable: types::int8u_at(body, 25),
+        ut1_reliable: numbers::int8u_at(body, 25),
     }
 }
 
@@ -76,8 +76,8 @@ fn words_eb(f: GlonassTime) -> [u64; 9]
 }
 
 pub fn encode_eb(f: GlonassTime, buf: &mut [u8]) -> Written
-    ensures { λ r. ⌜ (r ≡ writtenOf 0xEB (bytesEB f) (now (buf .entry)))
-        × (now (buf .exit) ≡ filledOf 0xEB (bytesEB f) (now (buf .entry))) ⌝ }
+    ensures { λ r. ⌜ (r ≡ encodedOf 0xEB (bytesEB f) (now (buf .entry)))
+        × (now (buf .exit) ≡ encodedInto 0xEB (bytesEB f) (now (buf .entry))) ⌝ }
 {
     rows::encode(0xEB, &words_eb(f), &WIDTHS_EB, buf)
 }

@@ -8,10 +8,12 @@ use borrow.Author.Tests.{eqb-true}
 use lib.Dec.{eqb}
 use lib.ListN.{length, take}
 use Rattle.octets.specs.Placing.{placed}
-use Rattle.limits.specs.Ranges.{free}
+use Rattle.ranges.specs.Ranges.{free}
 use Rattle.kinds.specs.Kinds.{table, rowIn, content}
-use Rattle.encoding.specs.Written.{accepted, writtenOf}
-use Rattle.encoding.proofs.WrittenLaws.{asked, written-judged, written-back, written-anew}
+use Rattle.octets.specs.Delivery.{accepted}
+use Rattle.encoding.specs.Encoding.{encodedOf}
+use Rattle.octets.proofs.DeliveryLaws.{asked}
+use Rattle.encoding.proofs.WrittenLaws.{written-judged, written-back, written-anew}
 use Rattle.encoding.proofs.AcceptedLaws.{one-length, spelled, either}
 use Rattle.fields_empty.specs.Family.{emptyKind, judgeEmpty, writeEmpty, fillEmpty}
 
@@ -30,7 +32,7 @@ empty-length id d =
 
 pub read-written-empty : (id : ℕ) (b : List ℕ) → writeEmpty id b .refusal ≡ 0 → judgeEmpty id (take (writeEmpty id b .length) (fillEmpty id b)) ≡ 0
 read-written-empty id b z =
-    let k = asked (emptyKind id) (writtenOf id [] b) 10 (λ e. omega arith) z in
+    let k = asked (emptyKind id) (encodedOf id [] b) 10 (λ e. omega arith) z in
     rw (k .0, written-back id [] b (k .1)) (written-judged id [] b (k .1) .0)
 
 pub written-read-empty : (id : ℕ) (d b : List ℕ) → judgeEmpty id d ≡ 0 → length d ≤ length b

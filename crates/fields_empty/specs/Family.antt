@@ -4,8 +4,9 @@ use mathlib.Core.List.{List, []}
 use Prim.Native.Nat.{ℕ}
 use lib.Dec.{eqb}
 use Rattle.kinds.specs.Kinds.{content}
-use Rattle.encoding.specs.declared.Written.{Written}
-use Rattle.encoding.specs.Written.{refused, writtenOf, filledOf}
+use Rattle.octets.specs.declared.Written.{Written}
+use Rattle.octets.specs.Delivery.{refused}
+use Rattle.encoding.specs.Encoding.{encodedOf, encodedInto}
 
 -- 1Bh, 1Eh, 26h, 54h: 0 bytes
 abbrev pub emptyKind : ℕ → Bool
@@ -15,7 +16,7 @@ abbrev pub judgeEmpty : ℕ → List ℕ → ℕ
 judgeEmpty id d = cond (emptyKind id) (content id d) 10
 
 abbrev pub writeEmpty : ℕ → List ℕ → Written
-writeEmpty id b = cond (emptyKind id) (writtenOf id [] b) (refused 10)
+writeEmpty id b = cond (emptyKind id) (encodedOf id [] b) (refused 10)
 
 abbrev pub fillEmpty : ℕ → List ℕ → List ℕ
-fillEmpty id b = cond (emptyKind id) (filledOf id [] b) b
+fillEmpty id b = cond (emptyKind id) (encodedInto id [] b) b

@@ -1,7 +1,7 @@
 // The kinds without data. Decoding gives the refusal, or 0. Encoding writes no byte; it gives the refusal, or 0.
 ghost use mathlib.Core.Path.{_≡_};
 ghost use Rattle.fields_empty.specs.Family.{emptyKind, judgeEmpty, writeEmpty, fillEmpty};
-use encoding::Written;
+use octets::Written;
 
 // 1Bh, 1Eh, 26h, 54h: no data.
 fn empty_kind(id: u8) -> bool

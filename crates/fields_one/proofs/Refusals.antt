@@ -4,7 +4,7 @@ use mathlib.Core.List.{List, []}
 use Prim.Native.Nat.{ℕ}
 use native.Mathlib.Omega.{arith}
 use Rattle.kinds.specs.Kinds.{table, rowIn, allows, lengthOk, content}
-use Rattle.encoding.specs.Written.{refused}
+use Rattle.octets.specs.Delivery.{refused}
 use Rattle.encoding.proofs.WrittenLaws.{refused-by}
 use Rattle.fields_one.specs.declared.OneByte.{OneByte}
 use Rattle.fields_one.specs.Family.{writeOneByte, fillOneByte}

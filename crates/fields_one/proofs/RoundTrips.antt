@@ -10,10 +10,12 @@ use borrow.Author.Tests.{eq-eqb, eqb-true, eqb-false, le-leb, leb-true}
 use lib.Dec.{eqb, leb}
 use lib.ListN.{length, take}
 use Rattle.octets.specs.Placing.{placed}
-use Rattle.limits.specs.Ranges.{free, in1F}
+use Rattle.ranges.specs.Ranges.{free, in1F}
 use Rattle.kinds.specs.Kinds.{table, rowIn, content}
-use Rattle.encoding.specs.Written.{refused, accepted, writtenOf}
-use Rattle.encoding.proofs.WrittenLaws.{asked, written-judged, written-back, written-anew}
+use Rattle.octets.specs.Delivery.{refused, accepted}
+use Rattle.encoding.specs.Encoding.{encodedOf}
+use Rattle.octets.proofs.DeliveryLaws.{asked}
+use Rattle.encoding.proofs.WrittenLaws.{written-judged, written-back, written-anew}
 use Rattle.encoding.proofs.AcceptedLaws.{two-lengths, one-length, spelled, either}
 use Rattle.fields_one.specs.declared.OneByte.{OneByte}
 use Rattle.fields_one.specs.Family.{oneByteKind, oneByteOf, blankOneByte, readOneByte, oneByteData, writeOneByte, fillOneByte}
@@ -58,8 +60,8 @@ pub read-written-one-byte : (id : ℕ) (f : OneByte) (b : List ℕ) → writeOne
 unfolding readOneByte writeOneByte fillOneByte
 read-written-one-byte id f b z =
     let d = oneByteData f in
-    let k = asked (oneByteKind id) (cond (leb (f .count) 1) (writtenOf id d b) (refused 11)) 10 (λ e. omega arith) z in
-    let w = asked (leb (f .count) 1) (writtenOf id d b) 11 (λ e. omega arith) (k .1) in
+    let k = asked (oneByteKind id) (cond (leb (f .count) 1) (encodedOf id d b) (refused 11)) 10 (λ e. omega arith) z in
+    let w = asked (leb (f .count) 1) (encodedOf id d b) 11 (λ e. omega arith) (k .1) in
     let j = written-judged id d b (w .1) in
     rw (k .0, w .0, written-back id d b (w .1), j .0, one-byte-kept f (leb-true (f .count) 1 (w .0)))
 

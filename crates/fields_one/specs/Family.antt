@@ -4,10 +4,11 @@ use mathlib.Core.List.{List, [], _∷_}
 use Prim.Native.Nat.{ℕ}
 use lib.Dec.{eqb, leb}
 use lib.ListN.{length, take}
-use Rattle.limits.specs.Ranges.{byte}
+use Rattle.ranges.specs.Ranges.{byte}
 use Rattle.kinds.specs.Kinds.{content}
-use Rattle.encoding.specs.declared.Written.{Written}
-use Rattle.encoding.specs.Written.{refused, writtenOf, filledOf}
+use Rattle.octets.specs.declared.Written.{Written}
+use Rattle.octets.specs.Delivery.{refused}
+use Rattle.encoding.specs.Encoding.{encodedOf, encodedInto}
 use Rattle.fields_one.specs.declared.OneByte.{OneByte}
 use Rattle.fields_one.specs.declared.OneByteRead.{OneByteRead}
 
@@ -33,7 +34,7 @@ abbrev pub oneByteData : OneByte → List ℕ
 oneByteData f = take (f .count) (f .value ∷ [])
 
 unfoldable pub writeOneByte : ℕ → OneByte → List ℕ → Written
-writeOneByte id f b = cond (oneByteKind id) (cond (leb (f .count) 1) (writtenOf id (oneByteData f) b) (refused 11)) (refused 10)
+writeOneByte id f b = cond (oneByteKind id) (cond (leb (f .count) 1) (encodedOf id (oneByteData f) b) (refused 11)) (refused 10)
 
 unfoldable pub fillOneByte : ℕ → OneByte → List ℕ → List ℕ
-fillOneByte id f b = cond (oneByteKind id) (cond (leb (f .count) 1) (filledOf id (oneByteData f) b) b) b
+fillOneByte id f b = cond (oneByteKind id) (cond (leb (f .count) 1) (encodedInto id (oneByteData f) b) b) b

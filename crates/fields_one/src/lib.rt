@@ -2,7 +2,7 @@
 // puts the data into a lent buffer, or refuses and leaves the buffer as it is.
 ghost use mathlib.Core.Path.{_≡_};
 ghost use Rattle.fields_one.specs.Family.{oneByteKind, judgeOneByte, readOneByte, writeOneByte, fillOneByte};
-use encoding::Written;
+use octets::Written;
 
 // 21h, 24h, 27h, 2Ah, 1Fh, F4h: a byte, if the count is 1.
 pub struct OneByte {

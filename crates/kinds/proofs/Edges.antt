@@ -4,8 +4,8 @@ use mathlib.Core.Path.{_≡_, refl}
 use Prim.Native.Nat.{ℕ, zero, suc}
 use lib.ListN.{length, replicate}
 use Rattle.numbers.specs.Number.{numberOf, numberAt}
-use Rattle.signed.specs.Signed.{signed}
-use Rattle.limits.specs.Ranges.{all, count}
+use Rattle.numbers.specs.Signed.{signed}
+use Rattle.ranges.specs.Ranges.{all, count}
 use Rattle.kinds.specs.Kinds.{table, rowIn, allows, chosen49, lengthOk, content}
 
 pub record Edges : Type 0 where

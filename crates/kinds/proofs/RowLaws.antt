@@ -12,7 +12,7 @@ use lib.ListN.{length, getD, drop, List·getD-map}
 use lib.Seq.{drop-cons}
 use Rattle.kinds.specs.declared.Kind.{Kind}
 use Rattle.kinds.specs.declared.Listed.the-variants.{As, Nothing}
-use Rattle.limits.specs.Ranges.{free}
+use Rattle.ranges.specs.Ranges.{free}
 use Rattle.kinds.specs.Kinds.{Row, table, rowIn, listed, lengthOk, inRange, judged, content}
 
 abbrev pub kindsOf : List Row → List Kind

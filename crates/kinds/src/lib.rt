@@ -78,15 +78,15 @@ fn in_range(id: u8, body: &[u8]) -> bool
     ensures { λ r. ⌜ r ≡ inRange (rowIn table id) (now (body .entry)) ⌝ }
 {
     match id {
-        0x1F => range_states::in_1f(body),
-        0x20 => range_satellites::in_20(body),
-        0x23 => range_times::in_23(body),
-        0x43 => range_states::in_43(body),
-        0x46 => range_times::in_46(body),
-        0x47 => range_uses::in_47(body),
-        0x49 => range_satellites::in_49(body),
-        0xEB => range_times::in_eb(body),
-        0x52 => range_views::in_52(body),
+        0x1F => ranges::in_1f(body),
+        0x20 => ranges::in_20(body),
+        0x23 => ranges::in_23(body),
+        0x43 => ranges::in_43(body),
+        0x46 => ranges::in_46(body),
+        0x47 => ranges::in_47(body),
+        0x49 => ranges::in_49(body),
+        0xEB => ranges::in_eb(body),
+        0x52 => ranges::in_52(body),
         _ => true,
     }
 }

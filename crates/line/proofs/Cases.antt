@@ -5,10 +5,10 @@ use Prim.Native.Nat.{ℕ, _+_}
 use native.Mathlib.Omega.{arith}
 use lib.Dec.{lit<}
 use Rattle.numbers.specs.Number.{numberOf, numberAt}
-use Rattle.signed.specs.Signed.{signed}
+use Rattle.numbers.specs.Signed.{signed}
 use Rattle.stuffing.specs.Stuffing.{stuffed}
 use Rattle.checksum.specs.Checksum.{shifted, shiftedBy, afterByte, afterBytes, checksum}
-use Rattle.limits.specs.Ranges.{all, count}
+use Rattle.ranges.specs.Ranges.{all, count}
 use Rattle.kinds.specs.Kinds.{table, rowIn, allows, chosen49, lengthOk, content}
 use Rattle.line.specs.Frame.{modeOf, classOf}
 use Rattle.line.specs.Table.State.{W}

@@ -6,3 +6,4 @@ pub mod PartLaws
 pub mod FreshLaws
 pub mod Printing
 pub mod Vectors
+pub mod Parts

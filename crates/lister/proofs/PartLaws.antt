@@ -8,13 +8,13 @@ use lib.ListN.{length, take, drop, length-drop}
 use lib.Seq.{take-all, drop-drop}
 use Rattle.octets.specs.Placing.{placed}
 use Rattle.octets.proofs.PlacingLaws.{length-placed}
-use Rattle.encoding.specs.declared.Written.{Written}
+use Rattle.octets.specs.declared.Written.{Written}
 use Rattle.line.specs.Record.{Rec, Possible}
 use Rattle.record.specs.declared.Reader.{Reader}
 use Rattle.record.specs.View.{view}
 use Rattle.listing.specs.Text.{writtenOf}
 use Rattle.listing.proofs.LineLaws.{read-back}
-use Rattle.totals.specs.Totals.{Counts, totalOf}
+use Rattle.listing.specs.Totals.{Counts, totalOf}
 use Rattle.lister.specs.declared.Part.{Part}
 use Rattle.lister.specs.Listing.{text, longest, Piece, piece}
 use Rattle.lister.specs.Posts.{PartPost, Good}

@@ -11,7 +11,7 @@ use Rattle.line.specs.Table.Event.{nothing, message, refusal}
 use Rattle.line.specs.Record.{Rec, Possible, Result, limit, eventOf, stepped, orStop, walk}
 use Rattle.line.specs.Record as Record
 use Rattle.line.proofs.Mirror.{keeps-possible}
-use Rattle.totals.specs.Totals.{totalOf}
+use Rattle.listing.specs.Totals.{totalOf}
 use Rattle.lister.specs.Listing.{lineOf, text, longest, Piece, stop, oneMore, piece}
 
 -- one turn of a walk, by whether there is room for b and by its event; x is what the other bytes come to

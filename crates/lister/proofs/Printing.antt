@@ -13,7 +13,7 @@ use Rattle.record.specs.declared.Reader.{Reader}
 use Rattle.record.specs.declared.Fresh.{Fresh}
 use Rattle.record.specs.View.{view}
 use Rattle.record.specs.Posts.{FreshPost}
-use Rattle.totals.specs.Totals.{Counts, totalOf}
+use Rattle.listing.specs.Totals.{Counts, totalOf}
 use Rattle.lister.specs.declared.Part.{Part}
 use Rattle.lister.specs.Listing.{lineOf, text, longest, Piece, piece}
 use Rattle.lister.specs.Posts.{PartPost, Good, Prints}

@@ -1,3 +1,4 @@
 pub mod Listing
 pub mod Counting
 pub mod Posts
+pub mod WholePosts

@@ -7,7 +7,7 @@ use lib.ListN.{length}
 use Rattle.line.specs.Table.{Event, byEvent}
 use Rattle.line.specs.Record.{Rec, limit, eventOf, stepped}
 use Rattle.listing.specs.Text.{eventLine}
-use Rattle.totals.specs.Totals.{totalOf}
+use Rattle.listing.specs.Totals.{totalOf}
 
 -- the line of an event at this offset: nothing yet has none, a message has number 0
 abbrev pub lineOf : ℕ → Event → List ℕ

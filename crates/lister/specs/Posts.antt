@@ -12,7 +12,7 @@ use Rattle.record.specs.View.{view}
 use Rattle.reader.specs.declared.InPlace.{InPlace}
 use Rattle.listing.specs.Text.{eventLine}
 use Rattle.lister.specs.declared.Part.{Part}
-use Rattle.totals.specs.Totals.{Counts, totalOf}
+use Rattle.listing.specs.Totals.{Counts, totalOf}
 use Rattle.lister.specs.Listing.{piece}
 use Rattle.lister.specs.Counting.{raised}
 

@@ -10,8 +10,8 @@ use lib.Dec.{ltb}
 use lib.ListN.{length, take, length-append}
 use Rattle.octets.specs.Placing.{placed}
 use Rattle.octets.proofs.PlacingLaws.{placed-more}
-use Rattle.encoding.specs.Written.{refused, accepted}
-use Rattle.encoding.proofs.WrittenLaws.{placed-back}
+use Rattle.octets.specs.Delivery.{refused, accepted}
+use Rattle.octets.proofs.DeliveryLaws.{placed-back}
 use Rattle.listing.specs.Text.{blank, newline, decimal, hexadecimal, decimals, eventLine, totalLine, writtenOf}
 use Rattle.listing.proofs.DecimalLaws.{decimal-length, decimal-short, decimals-nil, decimals-cons}
 

@@ -1,10 +1,15 @@
 // The lines of a listing, written into a buffer that the caller lends: one for an event, and the total.
-use encoding::Written;
+// The last line of a listing: the five counts of a reader.
+use octets::Written;
+use record::Reader;
 ghost use mathlib.Core.Path.{_≡_};
-ghost use mathlib.Core.List.{_∷_};
-ghost use Prim.Native.Nat.{_+_, _≤_, _<_};
+ghost use Prim.Native.Nat.{_≤_, _+_, _<_};
 ghost use lib.ListN.{length};
 ghost use Rattle.octets.specs.Placing.{placed};
+ghost use Rattle.record.specs.View.{view};
+ghost use Rattle.listing.specs.Text.{writtenOf};
+ghost use Rattle.listing.specs.Totals.{totalOf, Counts};
+ghost use mathlib.Core.List.{_∷_};
 ghost use Rattle.listing.specs.Text.{blank, decimal, hexDigit, decimals, eventLine, totalLine, writtenOf};
 
 // Puts a number in decimal at a place and returns the place after it.
@@ -136,4 +141,13 @@ pub fn total_line(
     let mut line = [0u8; 64];
     let n = put_total(fed, accepted, refused, outside, pending, &mut line);
     deliver(&line[..n], buf)
+}
+
+// Writes the line of a reader's five counts.
+pub fn list_total(r: Reader, buf: &mut [u8]) -> Written
+    ensures { λ x. ⌜ (x ≡ writtenOf (totalOf (view r)) (now (buf .entry))) × (now (buf .exit) ≡ placed (now (buf .entry)) 0 (totalOf (view r))) ⌝ }
+    ensures { λ x. ⌜ Counts (x .length) (now (buf .exit)) × (length (totalOf (view r)) ≤ 64) ⌝ }
+{
+    let h = r.head;
+    total_line(h.fed, h.accepted, h.refused, h.outside, h.pending, buf)
 }

@@ -13,7 +13,7 @@
 //
 // A call's line has its number and its answer; of 09 that is refusal, taken and length, then the five counts afterwards. Where it
 // fills a buffer, that follows, of Z before the call, up to four bytes past the room.
-use encoding::Written;
+use octets::Written;
 use record::Head;
 use record::Reader;
 
@@ -133,7 +133,7 @@ fn run_count(mode: u8, d: &[u8]) {
 
 fn run_data(call: u8, mode: u8, id: u8, d: &[u8], buf: &mut [u8]) {
     match call {
-        1 => answer(whole::list(mode, d, buf)),
+        1 => answer(lister::list(mode, d, buf)),
         2 => number(export::binr_list(mode, d, buf)),
         3 => number(export::binr_write(mode, id, d, buf)),
         4 => octet(export::binr_judge(id, d)),
@@ -148,7 +148,7 @@ fn run(s: &[u8], buf: &mut [u8]) {
     match s[0] {
         6 => run_event(s, buf),
         7 => run_total(s, buf),
-        8 => answer(totals::list_total(reader_of(s), buf)),
+        8 => answer(listing::list_total(reader_of(s), buf)),
         9 => run_part(s, buf),
         _ => run_data(s[0], s[1], s[2], &s[5..], buf),
     }

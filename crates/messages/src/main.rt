@@ -6,14 +6,14 @@
 // of 5A; the families 01 and 20 encode this number and this value as their two fields. A call's line has family, identifier, the
 // refusal of the data and, where there is none, the fields, the wide ones first, signed ones last, FP fields as their bits; then the
 // refusal and the length of the encoding, and last the buffer up to four bytes past the room.
-use encoding::Written;
+use octets::Written;
 use fields_20::Satellite;
 use fields_23::Zone;
 use fields_43::Outcome;
 use fields_46::Time;
 use fields_49::Ephemeris;
-use fields_49_glonass::Glonass;
-use fields_49_gps::Gps;
+use fields_49::Glonass;
+use fields_49::Gps;
 use fields_one::OneByte;
 
 fn number(n: u64) {
@@ -42,7 +42,7 @@ fn numbers(all: &[u64]) {
 }
 
 fn int8(z: i8) {
-    let b = signed::int8_byte(z);
+    let b = numbers::int8_byte(z);
     if z < 0 {
         io::write_all(1, b" -");
         io::print_decimal(1, 256 - b as u64);
@@ -52,7 +52,7 @@ fn int8(z: i8) {
 }
 
 fn int16(z: i16) {
-    let v = signed::int16_word(z);
+    let v = numbers::int16_word(z);
     if z < 0 {
         io::write_all(1, b" -");
         io::print_decimal(1, 65536 - v as u64);
@@ -126,11 +126,11 @@ fn changed_23(f: Zone, which: u8, value: u8) -> Zone {
             g
         }
         2 => {
-            g.hours = signed::int8_of(value);
+            g.hours = numbers::int8_of(value);
             g
         }
         3 => {
-            g.minutes = signed::int8_of(value);
+            g.minutes = numbers::int8_of(value);
             g
         }
         _ => g,
@@ -203,11 +203,11 @@ fn changed_46(f: Time, which: u8, value: u8) -> Time {
             g
         }
         5 => {
-            g.hours = signed::int8_of(value);
+            g.hours = numbers::int8_of(value);
             g
         }
         6 => {
-            g.minutes = signed::int8_of(value);
+            g.minutes = numbers::int8_of(value);
             g
         }
         _ => g,
@@ -270,7 +270,7 @@ fn run_gps(f: Gps, which: u8, value: u8, buf: &mut [u8]) {
     if which == 1 {
         g.prn = value;
     }
-    answer(fields_49_gps::encode_gps(g, buf));
+    answer(fields_49::encode_gps(g, buf));
 }
 
 fn show_glonass(f: Glonass) {
@@ -291,7 +291,7 @@ fn changed_glonass(f: Glonass, which: u8, value: u8) -> Glonass {
             g
         }
         2 => {
-            g.carrier = signed::int8_of(value);
+            g.carrier = numbers::int8_of(value);
             g
         }
         _ => g,
@@ -301,7 +301,7 @@ fn changed_glonass(f: Glonass, which: u8, value: u8) -> Glonass {
 fn run_glonass(f: Glonass, which: u8, value: u8, buf: &mut [u8]) {
     number(0);
     show_glonass(f);
-    answer(fields_49_glonass::encode_glonass(changed_glonass(f, which, value), buf));
+    answer(fields_49::encode_glonass(changed_glonass(f, which, value), buf));
 }
 
 fn run_49(d: &[u8], which: u8, value: u8, buf: &mut [u8]) {

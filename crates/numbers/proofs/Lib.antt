@@ -1,2 +1,4 @@
 pub mod Vectors
 pub mod NumberLaws
+pub mod SignedVectors
+pub mod SignedLaws

@@ -1,5 +1,9 @@
 // Numbers in bytes, low byte first.
+// Signed numbers: the bits that stand for them in two's complement, and back.
+// The types of the sources' tables that take one byte, read at an offset.
 ghost use mathlib.Core.Path.{_≡_};
+ghost use Rattle.numbers.specs.Types.{int8uAt, int8sAt};
+ghost use Rattle.numbers.specs.Signed.{int8, int16, unsigned};
 ghost use mathlib.Core.Bool.{cond};
 ghost use Prim.Native.Nat.{_^_, _<_};
 ghost use lib.Dec.{leb};
@@ -48,4 +52,61 @@ pub fn u64_at(s: &[u8], at: usize) -> u64
     ensures { λ r. ⌜ r ≡ numberAt (now (s .entry)) at 8 ⌝ }
 {
     number_at(s, at, 8)
+}
+
+// The number that a byte stands for in two's complement. A cast takes no byte of the upper half, so those are counted down from -1.
+pub fn int8_of(b: u8) -> i8
+    ensures { λ r. ⌜ r ≡ int8 b ⌝ }
+{
+    if b < 0x80 {
+        b as i8
+    } else {
+        -1 - ((0xFF - b) as i8)
+    }
+}
+
+// The same for two bytes.
+pub fn int16_of(v: u16) -> i16
+    ensures { λ r. ⌜ r ≡ int16 v ⌝ }
+{
+    if v < 0x8000 {
+        v as i16
+    } else {
+        -1 - ((0xFFFF - v) as i16)
+    }
+}
+
+// The byte that stands for a signed number.
+pub fn int8_byte(z: i8) -> u8
+    ensures { λ r. ⌜ r ≡ unsigned 8 z ⌝ }
+{
+    if z >= 0 {
+        z as u8
+    } else {
+        0xFF - ((-1 - z) as u8)
+    }
+}
+
+// The same for two bytes.
+pub fn int16_word(z: i16) -> u16
+    ensures { λ r. ⌜ r ≡ unsigned 16 z ⌝ }
+{
+    if z >= 0 {
+        z as u16
+    } else {
+        0xFFFF - ((-1 - z) as u16)
+    }
+}
+
+// Past the end of the data they are 0.
+pub fn int8u_at(body: &[u8], at: usize) -> u8
+    ensures { λ r. ⌜ r ≡ int8uAt (now (body .entry)) at ⌝ }
+{
+    octets::byte_at(body, at)
+}
+
+pub fn int8s_at(body: &[u8], at: usize) -> i8
+    ensures { λ r. ⌜ r ≡ int8sAt (now (body .entry)) at ⌝ }
+{
+    int8_of(int8u_at(body, at))
 }

@@ -18,10 +18,10 @@ use Rattle.line.specs.Record.{Kept, update}
 use Rattle.line.specs.Record.Place.{at as on}
 use Rattle.record.specs.View.{placeOf, dataOf}
 use Rattle.record.proofs.Data.{data-take}
-use Rattle.framing.specs.Moving.{see, closedBy, ended, verdictOf, baseOf}
+use Rattle.reader.specs.Moving.{see, closedBy, ended, verdictOf, baseOf}
 use Rattle.reader.specs.Closing.{headWith, resumed, reopenedBy, concludedBy, storedBy, seeHead, Finishes}
 use Rattle.record.specs.declared.Head.{Head}
-use Rattle.framing.specs.declared.Moving.{Moving}
+use Rattle.reader.specs.declared.Moving.{Moving}
 use Rattle.record.specs.declared.Event.the-variants.{Message}
 
 -- where questions 9 to 12 are yes, 10 to 12 are

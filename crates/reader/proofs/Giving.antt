@@ -12,10 +12,10 @@ use Rattle.record.specs.View.{placeOf, dataOf, view, partsOf, shown, recordOf}
 use Rattle.questions.specs.Question.{Valid}
 use Rattle.record.specs.declared.Reader.{Reader}
 use Rattle.record.specs.declared.Event.the-variants.{Refusal}
-use Rattle.framing.specs.Moving.{Out, baseOf, resultOf, turned}
-use Rattle.framing.specs.Posts.{FramePost}
-use Rattle.framing.specs.declared.Moved.{Moved}
-use Rattle.framing.specs.declared.Framed.{Framed}
+use Rattle.reader.specs.Moving.{Out, baseOf, resultOf, turned}
+use Rattle.reader.specs.FramePosts.{FramePost}
+use Rattle.reader.specs.declared.Moved.{Moved}
+use Rattle.reader.specs.declared.Framed.{Framed}
 use Rattle.reader.specs.Posts.{FeedPost, Reads, InPlacePost, fedOf}
 use Rattle.reader.specs.Closing.{Finishes, storedBy}
 use Rattle.reader.specs.declared.Closed.{Closed}

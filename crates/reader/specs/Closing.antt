@@ -12,8 +12,8 @@ use Rattle.line.specs.Record.{Rec, Kept, update}
 use Rattle.record.specs.View.{placeOf, dataOf, shown}
 use Rattle.record.specs.declared.Head.{Head}
 use Rattle.record.specs.declared.Event.the-variants.{Nothing, Message, Refusal}
-use Rattle.framing.specs.Moving.{Out}
-use Rattle.framing.specs.declared.Moving.{Moving}
+use Rattle.reader.specs.Moving.{Out}
+use Rattle.reader.specs.declared.Moving.{Moving}
 use Rattle.reader.specs.declared.Closed.{Closed}
 
 -- the head after a call, but for accepted and refused

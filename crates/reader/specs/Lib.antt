@@ -1,2 +1,4 @@
 pub mod Posts
 pub mod Closing
+pub mod Moving
+pub mod FramePosts

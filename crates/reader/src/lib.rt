@@ -1,21 +1,494 @@
 // The slice call, in place: bytes up to the first event, the end of the slice or the limit.
-use framing::Act;
-use framing::Moved;
-use framing::Moving;
+// Framing: the bytes of a slice from place to place, up to the first that raises an event.
 use latest::Latest;
-use record::Event;
 use record::Head;
-ghost use mathlib.Core.Bool.{false};
-ghost use mathlib.Core.Option.{Option};
+use record::Reader;
+use record::Event;
 ghost use mathlib.Core.List.{List};
 ghost use mathlib.Core.Path.{_≡_};
 ghost use Prim.Native.Nat.{ℕ, _+_, _-_, _<_, _≤_};
 ghost use lib.ListN.{length, take};
-ghost use Rattle.line.specs.Frame.{modeOf, judge as judgeOf};
 ghost use Rattle.line.specs.Record.{limit, Kept};
-ghost use Rattle.framing.specs.Moving.{Busy, turned, baseOf};
+ghost use Rattle.reader.specs.Moving.{Skips, Copied, Fills, Fits, Pends, Sound, Steps, Goes, Ran, went, passed, opened, shut as shutOf, startOf};
+ghost use Rattle.reader.specs.FramePosts.{FramePost};
+ghost use mathlib.Core.Bool.{false};
+ghost use mathlib.Core.Option.{Option};
+ghost use Rattle.line.specs.Frame.{modeOf, judge as judgeOf};
+ghost use Rattle.reader.specs.Moving.{Busy, turned, baseOf};
 ghost use Rattle.reader.specs.Posts.{InPlacePost};
 ghost use Rattle.reader.specs.Closing.{Finishes, headWith, resumed, reopenedBy, concludedBy, concluded};
+
+// The numbers that move in a slice call.
+pub struct Moving {
+    pub place: u8,
+    pub id: u8,
+    pub c1: u8,
+    pub c2: u8,
+    pub len: usize,
+    pub outside: u32,
+    pub pending: u32,
+}
+
+// What is left to do after the numbers have moved.
+pub enum Act {
+    Quiet,
+    Refused(u8),
+    Reopened(u8),
+    Ended,
+}
+
+pub struct Moved {
+    pub now: Moving,
+    pub act: Act,
+    pub last: u8,
+    pub at: usize,
+}
+
+// Questions 1 to 3, and where they are all yes, what has moved. Where one is not, nothing has.
+pub struct Framed {
+    pub refusal: u8,
+    pub moved: Moved,
+}
+
+// How many bytes of n can be counted.
+fn span(fed: u32, n: usize) -> usize
+    ensures { λ r. ⌜ (r ≤ n) × (fed + r ≤ limit) × (r < n → fed + r ≡ limit) ⌝ }
+{
+    let most = (Reader::LIMIT - fed) as usize;
+    if most < n { most } else { n }
+}
+
+// Where the array's room, or n, ends.
+fn bound(len: usize, from: usize, n: usize) -> usize
+    requires { ⌜ len ≤ 1024 ⌝ }
+    requires { ⌜ from ≤ n ⌝ }
+    ensures { λ r. ⌜ (from ≤ r) × (r ≤ n) × (len + (r - from) ≤ 1024) × (r < n → len + (r - from) ≡ 1024) ⌝ }
+{
+    if 1024 - len < n - from {
+        from + (1024 - len)
+    } else {
+        n
+    }
+}
+
+// The first DLE from a place on, or n.
+fn skip(s: &[u8], from: usize, n: usize) -> usize
+    requires { ⌜ (from ≤ n) × (n ≤ length (now s)) ⌝ }
+    ensures { λ r. ⌜ Skips (now (s .entry)) from n r ⌝ }
+{
+    let mut at = from;
+    while at < n {
+        if s[at] == Reader::DLE {
+            return at;
+        }
+        at = at + 1;
+    }
+    at
+}
+
+// Stores bytes four at a time, as long as none of the four is DLE.
+fn fill_fours(d: &mut [u8; 1024], len: usize, s: &[u8], from: usize) -> usize
+    requires { ⌜ (from ≤ length (now s)) × (len + (length (now s) - from) ≤ 1024) × (length (now d) ≡ 1024) ⌝ }
+    ensures { λ r. ⌜ (r ≤ length (now (s .entry))) × Copied (now (d .entry)) (now (d .exit)) len (now (s .entry)) from r ⌝ }
+{
+    let mut at = from;
+    while stuffing::four_plain(s, at) {
+        let to = len + (at - from);
+        d[to] = s[at];
+        d[to + 1] = s[at + 1];
+        d[to + 2] = s[at + 2];
+        d[to + 3] = s[at + 3];
+        at = at + 4;
+    }
+    at
+}
+
+// Stores bytes until a DLE, n or 1,024 held.
+fn fill(d: &mut [u8; 1024], len: usize, s: &[u8], from: usize, n: usize) -> usize
+    requires { ⌜ (len ≤ 1024) × (from ≤ n) × (n ≤ length (now s)) × (length (now d) ≡ 1024) ⌝ }
+    ensures { λ r. ⌜ Fills (now (d .entry)) (now (d .exit)) len (now (s .entry)) from n r ⌝ }
+{
+    let most = bound(len, from, n);
+    let mut at = fill_fours(d, len, &s[..most], from);
+    while at < most {
+        let b = s[at];
+        if b == Reader::DLE {
+            return at;
+        }
+        d[len + (at - from)] = b;
+        at = at + 1;
+    }
+    at
+}
+
+// The byte is pending, and the place is p.
+fn go(m: Moving, p: u8, at: usize) -> Moved
+    requires { ⌜ m .pending < limit ⌝ }
+    ensures { λ r. ⌜ r ≡ went m p at ⌝ }
+{
+    let n = Moving {
+        place: p,
+        id: m.id,
+        c1: m.c1,
+        c2: m.c2,
+        len: m.len,
+        outside: m.outside,
+        pending: m.pending + 1,
+    };
+    Moved {
+        now: n,
+        act: Act::Quiet,
+        last: 0,
+        at: at,
+    }
+}
+
+// Two bytes stay outside.
+fn pass_by(m: Moving, at: usize) -> Moved
+    requires { ⌜ m .outside + 2 ≤ limit ⌝ }
+    ensures { λ r. ⌜ r ≡ passed m at ⌝ }
+{
+    let n = Moving {
+        place: 0,
+        id: m.id,
+        c1: m.c1,
+        c2: m.c2,
+        len: m.len,
+        outside: m.outside + 2,
+        pending: 0,
+    };
+    Moved {
+        now: n,
+        act: Act::Quiet,
+        last: 0,
+        at: at,
+    }
+}
+
+// A frame opens.
+fn begin(m: Moving, b: u8, at: usize) -> Moved
+    requires { ⌜ m .pending < limit ⌝ }
+    ensures { λ r. ⌜ r ≡ opened m b at ⌝ }
+{
+    let n = Moving {
+        place: 2,
+        id: b,
+        c1: m.c1,
+        c2: m.c2,
+        len: 0,
+        outside: m.outside,
+        pending: m.pending + 1,
+    };
+    Moved {
+        now: n,
+        act: Act::Quiet,
+        last: 0,
+        at: at,
+    }
+}
+
+// The byte is pending, and the act closes the frame.
+fn shut(m: Moving, act: Act, b: u8, at: usize) -> Moved
+    requires { ⌜ m .pending < limit ⌝ }
+    ensures { λ r. ⌜ r ≡ shutOf m act b at ⌝ }
+{
+    let n = Moving {
+        place: m.place,
+        id: m.id,
+        c1: m.c1,
+        c2: m.c2,
+        len: m.len,
+        outside: m.outside,
+        pending: m.pending + 1,
+    };
+    Moved {
+        now: n,
+        act: act,
+        last: b,
+        at: at,
+    }
+}
+
+// W: bytes outside, up to a DLE.
+fn in_w(m: Moving, s: &[u8], at: usize, n: usize) -> Moved
+    requires { ⌜ (at < n) × (n ≤ length (now s)) × (m .place ≡ 0) × (m .pending ≡ 0) ⌝ }
+    requires { ⌜ Fits m at n ⌝ }
+    ensures { λ r. ⌜ ((k : ℕ) (a : List ℕ) → length a ≡ 1024 → Goes k m a a (now (s .entry)) at n r) ⌝ }
+{
+    let to = skip(s, at, n);
+    let w = Moving {
+        place: m.place,
+        id: m.id,
+        c1: m.c1,
+        c2: m.c2,
+        len: m.len,
+        outside: m.outside + (to - at) as u32,
+        pending: m.pending,
+    };
+    if to < n {
+        return go(w, 1, to + 1);
+    }
+    Moved {
+        now: w,
+        act: Act::Quiet,
+        last: 0,
+        at: to,
+    }
+}
+
+// WD: an identifier opens a frame, a service code does not.
+fn in_wd(m: Moving, b: u8, at: usize, n: usize) -> Moved
+    requires { ⌜ (1 ≤ at) × (at ≤ n) × (m .place ≡ 1) × (m .pending ≡ 1) ⌝ }
+    requires { ⌜ Fits m (at - 1) n ⌝ }
+    ensures { λ r. ⌜ ((k : ℕ) (a : List ℕ) → length a ≡ 1024 → Steps k m a a b at n r) ⌝ }
+{
+    match b {
+        Reader::ETX | Reader::DLE | Reader::SUM => pass_by(m, at),
+        0..=2 | 4..=15 | 17..=254 => begin(m, b, at),
+    }
+}
+
+// F: bytes of data, up to a DLE or one too many.
+fn in_f(m: Moving, d: &mut [u8; 1024], s: &[u8], at: usize, n: usize) -> Moved
+    requires { ⌜ (at < n) × (n ≤ length (now s)) × (m .place ≡ 2) × (length (now d) ≡ 1024) × Pends m (now d) ⌝ }
+    requires { ⌜ Fits m at n ⌝ }
+    ensures { λ r. ⌜ ((k : ℕ) → Goes k m (now (d .entry)) (now (d .exit)) (now (s .entry)) at n r) ⌝ }
+{
+    let len = m.len;
+    let to = fill(d, len, s, at, n);
+    let w = Moving {
+        place: m.place,
+        id: m.id,
+        c1: m.c1,
+        c2: m.c2,
+        len: len + (to - at),
+        outside: m.outside,
+        pending: m.pending + (to - at) as u32,
+    };
+    if to < n {
+        let b = s[to];
+        if b == Reader::DLE {
+            return go(w, 3, to + 1);
+        }
+        return shut(w, Act::Refused(4), b, to + 1);
+    }
+    Moved {
+        now: w,
+        act: Act::Quiet,
+        last: 0,
+        at: to,
+    }
+}
+
+// FD: a DLE of the data, an end, a checksum, or the start of another frame.
+fn in_fd(mode: u8, m: Moving, d: &mut [u8; 1024], b: u8, at: usize, n: usize) -> Moved
+    requires { ⌜ (1 ≤ at) × (at ≤ n) × (m .place ≡ 3) × (length (now d) ≡ 1024) × Pends m (now d) ⌝ }
+    requires { ⌜ Fits m (at - 1) n ⌝ }
+    ensures { λ r. ⌜ Steps mode m (now (d .entry)) (now (d .exit)) b at n r ⌝ }
+    ensures { λ r. ⌜ length (now (d .exit)) ≡ 1024 ⌝ }
+{
+    match b {
+        Reader::DLE => {
+            let k = m.len;
+            if k < 1024 {
+                d[k] = b;
+                let w = Moving {
+                    place: m.place,
+                    id: m.id,
+                    c1: m.c1,
+                    c2: m.c2,
+                    len: k + 1,
+                    outside: m.outside,
+                    pending: m.pending,
+                };
+                go(w, 2, at)
+            } else {
+                shut(m, Act::Refused(4), b, at)
+            }
+        }
+        Reader::ETX => if mode == 0 {
+            shut(m, Act::Ended, b, at)
+        } else {
+            shut(m, Act::Refused(6), b, at)
+        },
+        Reader::SUM => if mode == 0 {
+            shut(m, Act::Refused(7), b, at)
+        } else {
+            go(m, 4, at)
+        },
+        0..=2 | 4..=15 | 17..=254 => shut(m, Act::Reopened(5), b, at),
+    }
+}
+
+// C0: the first byte of the checksum.
+fn in_c0(m: Moving, b: u8, at: usize, n: usize) -> Moved
+    requires { ⌜ (1 ≤ at) × (at ≤ n) × (m .place ≡ 4) ⌝ }
+    requires { ⌜ Fits m (at - 1) n ⌝ }
+    ensures { λ r. ⌜ ((k : ℕ) (a : List ℕ) → length a ≡ 1024 → Pends m a → Steps k m a a b at n r) ⌝ }
+{
+    let w = Moving {
+        place: m.place,
+        id: m.id,
+        c1: b,
+        c2: m.c2,
+        len: m.len,
+        outside: m.outside,
+        pending: m.pending,
+    };
+    go(w, 5, at)
+}
+
+// C1: the second byte of the checksum.
+fn in_c1(m: Moving, b: u8, at: usize, n: usize) -> Moved
+    requires { ⌜ (1 ≤ at) × (at ≤ n) × (m .place ≡ 5) ⌝ }
+    requires { ⌜ Fits m (at - 1) n ⌝ }
+    ensures { λ r. ⌜ ((k : ℕ) (a : List ℕ) → length a ≡ 1024 → Pends m a → Steps k m a a b at n r) ⌝ }
+{
+    let w = Moving {
+        place: m.place,
+        id: m.id,
+        c1: m.c1,
+        c2: b,
+        len: m.len,
+        outside: m.outside,
+        pending: m.pending,
+    };
+    go(w, 6, at)
+}
+
+// E: the DLE of the end.
+fn in_e(m: Moving, b: u8, at: usize, n: usize) -> Moved
+    requires { ⌜ (1 ≤ at) × (at ≤ n) × (m .place ≡ 6) × (2 ≤ m .pending) ⌝ }
+    requires { ⌜ Fits m (at - 1) n ⌝ }
+    ensures { λ r. ⌜ ((k : ℕ) (a : List ℕ) → length a ≡ 1024 → Pends m a → Steps k m a a b at n r) ⌝ }
+{
+    if b == Reader::DLE {
+        go(m, 7, at)
+    } else {
+        shut(m, Act::Refused(8), b, at)
+    }
+}
+
+// ED: the end, or the start of another frame.
+fn in_ed(m: Moving, b: u8, at: usize, n: usize) -> Moved
+    requires { ⌜ (1 ≤ at) × (at ≤ n) × (m .place ≡ 7) × (2 ≤ m .pending) ⌝ }
+    requires { ⌜ Fits m (at - 1) n ⌝ }
+    ensures { λ r. ⌜ ((k : ℕ) (a : List ℕ) → Sound k m a → length a ≡ 1024 → Pends m a → Steps k m a a b at n r) ⌝ }
+{
+    match b {
+        Reader::ETX => shut(m, Act::Ended, b, at),
+        Reader::DLE | Reader::SUM => shut(m, Act::Refused(8), b, at),
+        0..=2 | 4..=15 | 17..=254 => shut(m, Act::Reopened(8), b, at),
+    }
+}
+
+// Bytes from one place on: at least one, up to n.
+fn advance(mode: u8, m: Moving, d: &mut [u8; 1024], s: &[u8], at: usize, n: usize) -> Moved
+    requires { ⌜ (at < n) × (n ≤ length (now s)) × (length (now d) ≡ 1024) × Pends m (now d) ⌝ }
+    requires { ⌜ Fits m at n × Sound mode m (now d) ⌝ }
+    ensures { λ r. ⌜ Goes mode m (now (d .entry)) (now (d .exit)) (now (s .entry)) at n r ⌝ }
+{
+    let b = s[at];
+    let next = at + 1;
+    let place = m.place;
+    match place {
+        0 => in_w(m, s, at, n),
+        1 => in_wd(m, b, next, n),
+        2 => in_f(m, d, s, at, n),
+        3 => in_fd(mode, m, d, b, next, n),
+        4 => in_c0(m, b, next, n),
+        5 => in_c1(m, b, next, n),
+        6 => in_e(m, b, next, n),
+        _ => in_ed(m, b, next, n),
+    }
+}
+
+// Bytes up to n, or up to the first event.
+fn run(mode: u8, m0: Moving, d: &mut [u8; 1024], s: &[u8], n: usize) -> Moved
+    requires { ⌜ (n ≤ length (now s)) × (length (now d) ≡ 1024) × Pends m0 (now d) ⌝ }
+    requires { ⌜ Fits m0 0 n × Sound mode m0 (now d) ⌝ }
+    ensures { λ r. ⌜ Ran mode m0 (now (d .entry)) (now (d .exit)) (now (s .entry)) n r ⌝ }
+{
+    let mut m = m0;
+    let mut at: usize = 0;
+    while at < n {
+        let t = advance(mode, m, d, s, at, n);
+        let act = t.act;
+        match act {
+            Act::Quiet => {
+                m = t.now;
+                at = t.at;
+            }
+            Act::Refused(_) => {
+                return t;
+            }
+            Act::Reopened(_) => {
+                return t;
+            }
+            Act::Ended => {
+                return t;
+            }
+        }
+    }
+    Moved {
+        now: m,
+        act: Act::Quiet,
+        last: 0,
+        at: at,
+    }
+}
+
+// The moving numbers of a head: a length that has no meaning is 0.
+fn start(h: Head) -> Moving
+    ensures { λ r. ⌜ r ≡ startOf h ⌝ }
+{
+    if h.place < 2 {
+        return Moving {
+            place: h.place,
+            id: h.id,
+            c1: h.c1,
+            c2: h.c2,
+            len: 0,
+            outside: h.outside,
+            pending: h.pending,
+        };
+    }
+    Moving {
+        place: h.place,
+        id: h.id,
+        c1: h.c1,
+        c2: h.c2,
+        len: h.len,
+        outside: h.outside,
+        pending: h.pending,
+    }
+}
+
+// Asks questions 1 to 3 of a record of these parts, then moves over bytes up to the first event, the end of the slice or the limit.
+pub fn frame(h: Head, l: Latest, d: &mut [u8; 1024], s: &[u8]) -> Framed
+    ensures { λ x. ⌜ FramePost h l (now (d .entry)) (now (d .exit)) (now (s .entry)) x ⌝ }
+{
+    let m = start(h);
+    let v = questions::question(h, l, d, s.len());
+    if v != 0 {
+        let t = Moved {
+            now: m,
+            act: Act::Quiet,
+            last: 0,
+            at: 0,
+        };
+        return Framed {
+            refusal: v,
+            moved: t,
+        };
+    }
+    let n = span(h.fed, s.len());
+    let t = run(h.mode, m, d, s, n);
+    Framed {
+        refusal: 0,
+        moved: t,
+    }
+}
 
 // What an act comes to: the head, the answer's parts, and whether a message was given.
 pub struct Closed {
@@ -170,7 +643,7 @@ fn finish(h: Head, t: Moved, d: &[u8]) -> Closed
 pub fn feed_in_place(h: Head, l: Latest, d: &mut [u8; 1024], s: &[u8]) -> InPlace
     ensures { λ x. ⌜ InPlacePost h l (now (d .entry)) (now (d .exit)) (now (s .entry)) x ⌝ }
 {
-    let f = framing::frame(h, l, d, s);
+    let f = frame(h, l, d, s);
     let v = f.refusal;
     if v != 0 {
         return InPlace {
@@ -189,7 +662,7 @@ pub fn feed_in_place(h: Head, l: Latest, d: &mut [u8; 1024], s: &[u8]) -> InPlac
     let e = o.event;
     let mut last = l;
     if o.keep {
-        last = storing::store(l, o.id, d, o.len);
+        last = latest::store(l, o.id, d, o.len);
     }
     InPlace {
         head: g,

@@ -3,6 +3,9 @@ use latest::Latest;
 ghost use mathlib.Core.Path.{_≡_};
 ghost use Rattle.record.specs.Posts.{FreshPost, blank as blankOf};
 
+// A count of bytes.
+pub type Count = u32;
+
 // The numbers of the record. Mode and place are numbers, so that a wrong one can be refused.
 pub struct Head {
     pub mode: u8,
@@ -11,11 +14,11 @@ pub struct Head {
     pub c1: u8,
     pub c2: u8,
     pub len: usize,
-    pub accepted: u32,
-    pub refused: u32,
-    pub outside: u32,
-    pub pending: u32,
-    pub fed: u32,
+    pub accepted: Count,
+    pub refused: Count,
+    pub outside: Count,
+    pub pending: Count,
+    pub fed: Count,
 }
 
 pub struct Reader {
@@ -37,7 +40,7 @@ pub struct Answer {
     pub id: u8,
     pub len: usize,
     pub bytes: [u8; 1024],
-    pub closed: u32,
+    pub closed: Count,
 }
 
 // A fresh reader, or refusal 1 beside a blank record.
@@ -61,7 +64,7 @@ impl Reader {
     pub const SUM: u8 = 0xFF;
 
     // The largest number of bytes that can be counted.
-    pub const LIMIT: u32 = 4294967295;
+    pub const LIMIT: Count = 4294967295;
 
     // A record of a mode that has taken nothing.
     fn blank(mode: u8) -> Reader

@@ -14,9 +14,9 @@ use lib.Pow.{pow-add}
 use lib.Seq.{drop-cons, drop-length, drop-drop, take-at, drop-at, getD-take, getD-drop, length-take-le}
 use Rattle.numbers.specs.Number.{numberOf, bytesOf, numberAt}
 use Rattle.octets.specs.Placing.{placed}
-use Rattle.signed.specs.Signed.{signed, unsigned}
+use Rattle.numbers.specs.Signed.{signed, unsigned}
 use Rattle.numbers.proofs.NumberLaws.{length-bytes, number-bytes, bytes-number, number-lt, number-in}
-use Rattle.signed.proofs.SignedLaws.{signed-unsigned, unsigned-signed}
+use Rattle.numbers.proofs.SignedLaws.{signed-unsigned, unsigned-signed}
 use Rattle.octets.proofs.PlacingLaws.{placed-nil, placed-more, placed-start, length-placed}
 use Rattle.rows.specs.Layout.{Row, natural, integer, width, bits, Held, AllHeld, joined, laid, total, short, within, packs, packed}
 

@@ -7,7 +7,7 @@ use lib.IntN.{ℤ}
 use lib.ListN.{length}
 use lib.Signed.{mag}
 use Rattle.numbers.specs.Number.{bytesOf}
-use Rattle.signed.specs.Signed.{unsigned}
+use Rattle.numbers.specs.Signed.{unsigned}
 
 -- a row: a type, by how many bytes it takes, and a value of it; the type may be signed
 pub data Row : Type 0 where

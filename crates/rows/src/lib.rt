@@ -1,5 +1,5 @@
 // Rows of the sources' tables, one after the other as the data of a message.
-use encoding::Written;
+use octets::Written;
 ghost use mathlib.Core.Path.{_≡_};
 ghost use mathlib.Core.Bool.{true, cond, _&&_};
 ghost use Prim.Native.Nat.{_≤_};
@@ -7,7 +7,7 @@ ghost use lib.Dec.{leb};
 ghost use lib.ListN.{length};
 ghost use Rattle.octets.specs.Placing.{fits, placed};
 ghost use Rattle.numbers.specs.Number.{bytesOf};
-ghost use Rattle.encoding.specs.Written.{writtenOf, filledOf};
+ghost use Rattle.encoding.specs.Encoding.{encodedOf, encodedInto};
 ghost use Rattle.rows.specs.Layout.{laid, total, short, packs, packed};
 
 // The longest data of such a kind: 49h of GPS.
@@ -77,8 +77,8 @@ fn fill(words: &[u64], widths: &[usize], out: &mut [u8])
 // Lays words out as the data of a message, each in as many bytes as its width says, and delivers it. Where words are missing, a width
 // is above eight or the data would be longer than that of any such kind, the message has no data.
 pub fn encode(id: u8, words: &[u64], widths: &[usize], buf: &mut [u8]) -> Written
-    ensures { λ r. ⌜ (r ≡ writtenOf id (packed (now (widths .entry)) (now (words .entry))) (now (buf .entry)))
-        × (now (buf .exit) ≡ filledOf id (packed (now (widths .entry)) (now (words .entry))) (now (buf .entry))) ⌝ }
+    ensures { λ r. ⌜ (r ≡ encodedOf id (packed (now (widths .entry)) (now (words .entry))) (now (buf .entry)))
+        × (now (buf .exit) ≡ encodedInto id (packed (now (widths .entry)) (now (words .entry))) (now (buf .entry))) ⌝ }
 {
     let n = measure(widths, words.len());
     let mut body = [0u8; LONGEST];

@@ -9,7 +9,7 @@ use lib.Seq.{drop-drop}
 use Rattle.octets.specs.Placing.{placed}
 use Rattle.record.specs.declared.Reader.{Reader}
 use Rattle.record.specs.View.{view}
-use Rattle.totals.specs.Totals.{Counts}
+use Rattle.listing.specs.Totals.{Counts}
 use Rattle.lister.specs.declared.Part.{Part}
 use Rattle.lister.specs.Listing.{longest, piece}
 use Rattle.lister.specs.Posts.{PartPost, Good}

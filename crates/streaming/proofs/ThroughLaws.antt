@@ -8,7 +8,7 @@ use borrow.Author.Tests.{ltb-true}
 use lib.Dec.{ltb}
 use lib.ListN.{length, drop}
 use Rattle.line.specs.Record.{Rec, limit, eventOf, stepped}
-use Rattle.totals.specs.Totals.{totalOf}
+use Rattle.listing.specs.Totals.{totalOf}
 use Rattle.lister.specs.Listing.{lineOf, text, longest, Piece, piece}
 use Rattle.lister.proofs.PieceLaws.{pieced}
 use Rattle.streaming.specs.Through.{Through, until, through}

@@ -11,7 +11,7 @@ use Rattle.line.specs.Record.Fresh.{made}
 use Rattle.record.specs.declared.Reader.{Reader}
 use Rattle.record.specs.View.{view}
 use Rattle.record.specs.Posts.{blank}
-use Rattle.totals.specs.Totals.{totalOf}
+use Rattle.listing.specs.Totals.{totalOf}
 use Rattle.lister.specs.Posts.{Good}
 use Rattle.streaming.specs.declared.Chunk.{Chunk}
 use Rattle.streaming.specs.declared.Reads.{Reads}

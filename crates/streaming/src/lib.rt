@@ -159,7 +159,7 @@ fn print_total(x: Reads) -> Ended
     let c = x.chunk;
     let r = c.reader;
     let mut total = [0u8; 64];
-    let w = totals::list_total(r, &mut total);
+    let w = listing::list_total(r, &mut total);
     let n = w.length;
     let written = write_on(c.written, &total[..n]);
     say_cut(written);

@@ -1,5 +1,5 @@
 // The frame of a message, written into a buffer that the caller lends.
-use encoding::Written;
+use octets::Written;
 use record::Reader;
 ghost use mathlib.Core.Path.{_≡_};
 ghost use mathlib.Core.List.{_∷_, []};
@@ -8,7 +8,7 @@ ghost use lib.ListN.{length};
 ghost use Rattle.stuffing.specs.Stuffing.{stuffed};
 ghost use Rattle.octets.specs.Placing.{placed};
 ghost use Rattle.line.specs.Frame.{modeOf, sumField, frame};
-ghost use Rattle.writer.specs.Writing.{writtenOf, filledOf};
+ghost use Rattle.writer.specs.Writing.{frameWritten, frameFilled};
 
 // The length of a message's frame, which is the same whatever its identifier. The bound keeps the sum from wrapping.
 fn frame_length(mode: u8, body: &[u8]) -> usize
@@ -80,8 +80,8 @@ fn fill(mode: u8, id: u8, body: &[u8], buf: &mut [u8])
 
 // Writes the frame of a message into the buffer, or says why not.
 pub fn write(mode: u8, id: u8, body: &[u8], buf: &mut [u8]) -> Written
-    ensures { λ r. ⌜ (r ≡ writtenOf mode id (now (body .entry)) (now (buf .entry)))
-        × (now (buf .exit) ≡ filledOf mode id (now (body .entry)) (now (buf .entry))) ⌝ }
+    ensures { λ r. ⌜ (r ≡ frameWritten mode id (now (body .entry)) (now (buf .entry)))
+        × (now (buf .exit) ≡ frameFilled mode id (now (body .entry)) (now (buf .entry))) ⌝ }
 {
     if 1 < mode {
         return Written {

@@ -4,7 +4,7 @@ use Prim.Native.Nat.{ℕ, _-_, _<_}
 use native.Mathlib.Omega.{arith}
 use borrow.Author.Needs.{needs}
 use borrow.Author.Tests.{eq-eqb, ne-eqb}
-use Rattle.encoding.specs.declared.Written.{Written}
+use Rattle.octets.specs.declared.Written.{Written}
 use Rattle.export.specs.Answers.{answerOf}
 use Rattle.export.proofs.answer.Statement.{statement}
 use Rattle.export.proofs.answer.Tie as tie

@@ -8,7 +8,7 @@ use lib.Seq.{length-take-le}
 use mir.Facts.{toZ-ofZ}
 use mir.Syntax.{w8}
 use mir.Val.{SFits, toZ, ofZ}
-use Rattle.signed.specs.Signed.{unsigned}
+use Rattle.numbers.specs.Signed.{unsigned}
 use Rattle.fields_23.specs.Fields.{write23, fill23}
 use Rattle.fields_23.proofs.encode_23.Statement.{statement}
 use Rattle.fields_23.proofs.encode_23.Tie as tie

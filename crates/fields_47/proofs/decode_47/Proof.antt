@@ -6,7 +6,7 @@ use borrow.Author.Tests.{eq-eqb, ne-eqb}
 use lib.ListN.{length}
 use Rattle.encoding.proofs.AcceptedLaws.{one-length}
 use Rattle.kinds.specs.Kinds.{table, rowIn}
-use Rattle.limits.specs.Ranges.{in47}
+use Rattle.ranges.specs.Ranges.{in47}
 use Rattle.fields_47.specs.Uses.{read47}
 use Rattle.fields_47.proofs.decode_47.Statement.{statement}
 use Rattle.fields_47.proofs.decode_47.Tie as tie

@@ -3,7 +3,7 @@ use mathlib.Core.List.{List}
 use mathlib.Core.Path.{_≡_, ap, _∙_}
 use Prim.Native.Nat.{ℕ}
 use borrow.Author.Needs.{needs}
-use Rattle.encoding.specs.Written.{writtenOf, filledOf}
+use Rattle.encoding.specs.Encoding.{encodedOf, encodedInto}
 use Rattle.fields_47.proofs.encode_47.Statement.{statement}
 use Rattle.fields_47.proofs.encode_47.Tie as tie
 
@@ -24,9 +24,9 @@ returns c =
     let p = c .before .before in
     let w = p .before .before .before in
     let b = w .before .before .before .args .buf .now in
-    let answer : p .deliver .result ≡ writtenOf 0x47 (w .uses-data .result) b = p .deliver .ensures .0 in (
-      answer ∙ ap (λ (d : List ℕ). writtenOf 0x47 d b) (w .uses-data .ensures),
-      p .deliver .ensures .1 ∙ ap (λ (d : List ℕ). filledOf 0x47 d b) (w .uses-data .ensures),
+    let answer : p .deliver .result ≡ encodedOf 0x47 (w .uses-data .result) b = p .deliver .ensures .0 in (
+      answer ∙ ap (λ (d : List ℕ). encodedOf 0x47 d b) (w .uses-data .ensures),
+      p .deliver .ensures .1 ∙ ap (λ (d : List ℕ). encodedInto 0x47 d b) (w .uses-data .ensures),
     )
 
 pub encode-47-spec : {M : Type 1} → statement M

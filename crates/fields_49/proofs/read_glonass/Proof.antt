@@ -3,7 +3,7 @@ use mathlib.Core.Path.{_∙_}
 use borrow.Author.Needs.{sfits-of}
 use mir.Facts.{toZ-ofZ}
 use mir.Syntax.{w8}
-use Rattle.fields_49_glonass.specs.Glonass.{glonassOf}
+use Rattle.fields_49.specs.Glonass.{glonassOf}
 use Rattle.fields_49.proofs.read_glonass.Statement.{statement}
 use Rattle.fields_49.proofs.read_glonass.Tie as tie
 

@@ -1,5 +1,5 @@
 -- `read_gps` meets its contract: field by field, by what the readers ensure. They ask nothing.
-use Rattle.fields_49_gps.specs.Gps.{gpsOf}
+use Rattle.fields_49.specs.Gps.{gpsOf}
 use Rattle.fields_49.proofs.read_gps.Statement.{statement}
 use Rattle.fields_49.proofs.read_gps.Tie as tie
 

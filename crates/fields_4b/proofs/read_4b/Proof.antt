@@ -3,7 +3,7 @@ use mathlib.Core.Path.{_≡_, ap, _∙_}
 use borrow.Author.Needs.{sfits-of}
 use mir.Facts.{toZ-ofZ}
 use mir.Syntax.{w16}
-use Rattle.signed.specs.Signed.{int16}
+use Rattle.numbers.specs.Signed.{int16}
 use Rattle.fields_4b.specs.Scales.{scalesOf}
 use Rattle.fields_4b.proofs.read_4b.Statement.{statement}
 use Rattle.fields_4b.proofs.read_4b.Tie as tie

@@ -6,7 +6,7 @@ use native.Mathlib.Omega.{arith}
 use borrow.Author.Needs.{needs}
 use borrow.Author.Tests.{le-leb, lt-leb}
 use lib.Seq.{length-take-le}
-use Rattle.encoding.specs.Written.{writtenOf, filledOf}
+use Rattle.encoding.specs.Encoding.{encodedOf, encodedInto}
 use Rattle.fields_52.specs.Visible.{write52, fill52}
 use Rattle.fields_52.proofs.encode_52.Statement.{statement}
 use Rattle.fields_52.proofs.encode_52.Tie as tie
@@ -44,8 +44,8 @@ returns-2 c =
     let b = g .args .buf .now in
     let within : g .args .f .n ≤ 75 = omega (arith, w .before .if1 .left) in
     rw (le-leb _ _ within) (
-      p .deliver .ensures .0 ∙ ap (λ (d : List ℕ). writtenOf 0x52 d b) (w .entries-data .ensures),
-      p .deliver .ensures .1 ∙ ap (λ (d : List ℕ). filledOf 0x52 d b) (w .entries-data .ensures),
+      p .deliver .ensures .0 ∙ ap (λ (d : List ℕ). encodedOf 0x52 d b) (w .entries-data .ensures),
+      p .deliver .ensures .1 ∙ ap (λ (d : List ℕ). encodedInto 0x52 d b) (w .entries-data .ensures),
     )
 
 pub encode-52-spec : {M : Type 1} → statement M

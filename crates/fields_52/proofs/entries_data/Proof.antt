@@ -7,7 +7,7 @@ use native.Mathlib.Omega.{arith}
 use lib.ListN.{length, getD, replicate}
 use Rattle.octets.specs.Placing.{placed}
 use Rattle.octets.proofs.PlacingLaws.{length-placed, placed-nil}
-use Rattle.encoding.proofs.WrittenLaws.{placed-back}
+use Rattle.octets.proofs.DeliveryLaws.{placed-back}
 use Rattle.encoding.specs.Entries.{joined}
 use Rattle.encoding.proofs.EntryLaws.{length-joined, joined-more}
 use Rattle.fields_52.specs.declared.Entry.{Entry}

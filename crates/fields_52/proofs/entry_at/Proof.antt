@@ -1,8 +1,8 @@
 -- `entry_at` meets its contract, field by field.
 use mathlib.Core.Path.{_≡_, ap, _∙_}
 use Prim.Native.Nat.{_+_, _*_}
-use Rattle.signed.specs.Signed.{int8}
-use Rattle.limits.specs.Ranges.{byte}
+use Rattle.numbers.specs.Signed.{int8}
+use Rattle.ranges.specs.Ranges.{byte}
 use borrow.Author.Needs.{sfits-of, needs}
 use mir.Facts.{toZ-ofZ}
 use mir.Syntax.{w8}

@@ -8,7 +8,7 @@ use borrow.Author.Tests.{le-ltb}
 use lib.ListN.{length}
 use Rattle.octets.specs.Placing.{placed}
 use Rattle.octets.proofs.PlacingLaws.{placed-nil}
-use Rattle.encoding.specs.declared.Written.{Written}
+use Rattle.octets.specs.declared.Written.{Written}
 use Rattle.record.specs.declared.Event.{Event}
 use Rattle.listing.specs.Text.{writtenOf}
 use Rattle.listing.proofs.LineLaws.{event-longest}

@@ -5,7 +5,7 @@ use Prim.Native.Nat.{ℕ, _-_, _≤_, _<_}
 use native.Mathlib.Omega.{arith}
 use borrow.Author.Count.{below-more}
 use borrow.Author.Tests.{eqb-true, eq-eqb}
-use Rattle.limits.proofs.CountLaws.{never}
+use Rattle.ranges.proofs.CountLaws.{never}
 use Rattle.lookup.specs.Lookup.{Holds}
 use Rattle.lookup.proofs.find_satellite.Statement.{statement}
 use Rattle.lookup.proofs.find_satellite.Tie as tie

@@ -3,7 +3,7 @@ use mathlib.Core.Path.{_≡_, refl, sym, ap, _∙_}
 use mathlib.Core.List.{[]}
 use lib.ListN.{length, take}
 use Rattle.latest.specs.Latest.{latestOf}
-use Rattle.storing.proofs.Storing.{stored-acceptable}
+use Rattle.latest.proofs.Storing.{stored-acceptable}
 use Rattle.record.specs.View.{recordOf}
 use Rattle.reader.specs.Closing.{storedBy}
 use Rattle.reader.proofs.Giving.{gives, answers, refuses}

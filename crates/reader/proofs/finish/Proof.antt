@@ -7,11 +7,11 @@ use borrow.Author.Needs.{needs}
 use denote.Ref.{now}
 use mathlib.Core.Option.{Option}
 use Rattle.line.specs.Record.{Kept}
-use Rattle.framing.specs.Moving.{Busy, turned, baseOf}
+use Rattle.reader.specs.Moving.{Busy, turned, baseOf}
 use Rattle.reader.specs.Closing.{Finishes}
 use Rattle.record.specs.declared.Head.{Head}
-use Rattle.framing.specs.declared.Act.{Act}
-use Rattle.framing.specs.declared.Moved.{Moved}
+use Rattle.reader.specs.declared.Act.{Act}
+use Rattle.reader.specs.declared.Moved.{Moved}
 use Rattle.reader.specs.declared.Closed.{Closed}
 use Rattle.reader.proofs.Finishing.{finish-quiet, finish-refused, finish-reopened, finish-ended}
 use Rattle.reader.proofs.finish.Statement.{statement}

@@ -10,7 +10,7 @@ use borrow.Author.Tests.{eq-eqb, ne-eqb}
 use Rattle.checksum.specs.Checksum.{c1Of, c2Of}
 use Rattle.kinds.specs.Kinds.{content}
 use Rattle.line.specs.Frame.{modeOf, judge as judgeOf, agrees}
-use Rattle.framing.proofs.Rows.{mode-summed}
+use Rattle.reader.proofs.Rows.{mode-summed}
 use Rattle.reader.proofs.judge.Statement.{statement}
 use Rattle.reader.proofs.judge.Tie as tie
 

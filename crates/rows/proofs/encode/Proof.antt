@@ -6,7 +6,7 @@ use Prim.Native.Nat.{ℕ, _≤_}
 use borrow.Author.Needs.{needs}
 use lib.ListN.{length, take}
 use lib.Seq.{length-take-le}
-use Rattle.encoding.specs.Written.{writtenOf, filledOf}
+use Rattle.encoding.specs.Encoding.{encodedOf, encodedInto}
 use Rattle.rows.specs.Layout.{laid, total, short, packed}
 use Rattle.rows.proofs.RowLaws.{packed-none, packed-some, read-back}
 use Rattle.rows.proofs.encode.Statement.{statement}
@@ -34,8 +34,8 @@ returns c =
     let m = i .before in
     let x = m .before .before .before .before .args in
     let e = packed-none (x .widths .now) (x .words .now) (sym (i .if1 .taken) ∙ m .measure .ensures) in (
-      d .deliver .ensures .0 ∙ ap (λ (t : List ℕ). writtenOf (x .id) t (x .buf .now)) (sym e),
-      d .deliver .ensures .1 ∙ ap (λ (t : List ℕ). filledOf (x .id) t (x .buf .now)) (sym e),
+      d .deliver .ensures .0 ∙ ap (λ (t : List ℕ). encodedOf (x .id) t (x .buf .now)) (sym e),
+      d .deliver .ensures .1 ∙ ap (λ (t : List ℕ). encodedInto (x .id) t (x .buf .now)) (sym e),
     )
 
 -- where there are bytes the words pack
@@ -92,8 +92,8 @@ returns-2 c =
     let i = f .before .before in
     let x = i .before .before .before .before .before .args in
     let e = back f _ .1 ∙ sym (some i .0) in (
-      d .deliver2 .ensures .0 ∙ ap (λ (t : List ℕ). writtenOf (x .id) t (x .buf .now)) e,
-      d .deliver2 .ensures .1 ∙ ap (λ (t : List ℕ). filledOf (x .id) t (x .buf .now)) e,
+      d .deliver2 .ensures .0 ∙ ap (λ (t : List ℕ). encodedOf (x .id) t (x .buf .now)) e,
+      d .deliver2 .ensures .1 ∙ ap (λ (t : List ℕ). encodedInto (x .id) t (x .buf .now)) e,
     )
 
 pub encode-spec : {M : Type 1} → statement M

@@ -4,7 +4,7 @@ use mathlib.Core.Path.{_≡_, refl}
 use Prim.Native.Nat.{ℕ}
 use lib.ListN.{replicate}
 use Rattle.record.specs.View.{view}
-use Rattle.totals.specs.Totals.{totalOf}
+use Rattle.listing.specs.Totals.{totalOf}
 use Rattle.lister.proofs.PartLaws.{total-whole}
 use borrow.Author.Needs.{needs}
 use Rattle.streaming.proofs.print_total.Statement.{statement}

@@ -6,7 +6,7 @@ use borrow.Author.Needs.{needs}
 use lib.ListN.{length}
 use Rattle.kinds.specs.Kinds.{content}
 use Rattle.kinds.proofs.ContentLaws.{content-length}
-use Rattle.encoding.specs.Written.{refused, accepted}
+use Rattle.octets.specs.Delivery.{refused, accepted}
 use Rattle.line.specs.Frame.{modeOf, frame}
 use Rattle.writer.proofs.WritingLaws.{wrong-mode, wrong-content, too-short, all-written}
 use Rattle.writer.proofs.write.Statement.{statement}

@@ -1,0 +1,3 @@
+pub mod CountLaws
+pub mod BitLaws
+pub mod OnceLaws

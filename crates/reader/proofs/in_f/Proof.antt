@@ -1,0 +1,159 @@
+-- `framing::in_f` meets its contract: the bytes stored raise nothing, and then a DLE, a byte too many or the end.
+use mathlib.Core.Path.{_≡_, refl, sym, ap, _∙_, subst, subst⁻¹}
+use mathlib.Core.List.{List}
+use Prim.Native.Nat.{ℕ, _+_, _-_, _≤_}
+use native.Mathlib.Omega.{arith}
+use borrow.Author.Needs.{needs}
+use lib.ListN.{length, take, getD}
+use denote.Ref.{now}
+use lib.ListN.{length-take}
+use lib.Seq.{length-take-le}
+use Rattle.line.specs.Frame.{modeOf}
+use Rattle.line.specs.Table.{pending, next, refuse}
+use Rattle.line.specs.Table.State.{FD}
+use Rattle.line.specs.Record.{PlaceOk, IdOk}
+use Rattle.record.specs.View.{placeOf}
+use Rattle.reader.specs.Moving.{Sound, Fits, Goes}
+use Rattle.reader.specs.declared.Moving.{Moving}
+use Rattle.reader.specs.declared.Moved.{Moved}
+use Rattle.reader.proofs.Stepping.{row-at}
+use Rattle.reader.proofs.Feeding.{goes-of, then-goes, then-stop}
+use Rattle.reader.proofs.Bulk.{inner, silent-within, pends-within, pends-F, F-other}
+use Rattle.record.proofs.Data.{is-dle}
+use Rattle.reader.proofs.Rows.{in-place, fits-back, steps-went, steps-refused, full-join}
+use Rattle.reader.proofs.in_f.Statement.{statement}
+use Rattle.reader.proofs.in_f.Tie as tie
+
+fill-requires : tie.Need-fill-requires
+fill-requires c κs = search needs
+
+sub-t11 : tie.Need-sub-t11
+sub-t11 c = search needs
+
+add-t12 : tie.Need-add-t12
+add-t12 c = search needs
+
+sub-t13 : tie.Need-sub-t13
+sub-t13 c = search needs
+
+cast-t14 : tie.Need-cast-t14
+cast-t14 c = search needs
+
+add-t15 : tie.Need-add-t15
+add-t15 c = search needs
+
+shared-slice-read-b : tie.Need-shared-slice-read-b
+shared-slice-read-b c = search needs
+
+add-go : tie.Need-add-go
+add-go c = search needs
+
+go-requires : tie.Need-go-requires
+go-requires c κs = search needs
+
+-- the place stays possible while data join
+F-sound : (k : ℕ) (m : Moving) (a : List ℕ) (w : Moving) (a′ : List ℕ) → m .place ≡ 2 → w .place ≡ 2 → w .id ≡ m .id → w .len ≤ 1024 → Sound k m a
+    → Sound k w a′
+unfolding placeOf
+F-sound k m a w a′ p q i l h =
+    let u = subst IdOk (in-place m a 2 p) (h .identifier) in
+    subst⁻¹ (PlaceOk (modeOf k)) (in-place w a′ 2 q)
+    (record { mode = tt; identifier = rw i u; size = omega (arith, length-take (w .len) a′) })
+
+returns : tie.Need-returns
+unfolding placeOf
+returns c k =
+    let j = c .before .before .before .before .before in
+    let x = j .before .before .before .args in
+    let p = j .before .before .before .pre in
+    let y = j .fill .ensures in
+    let r = j .fill .result in
+    let a = j .fill .last .0 in
+    let l : length (take (x .m .len) (now (x .d))) ≡ x .m .len = length-take-le (x .m .len) (now (x .d)) (omega (arith, p .0 .3, p .1 .short)) in
+    let m = inner (x .m) (r - x .at) in
+    let q = silent-within k (x .m) (now (x .d)) a (now (x .s)) (x .at) r (x .n) (p .0 .2) (y .least) (y .most) (p .0 .1) (y .none) (p .0 .4) l (y .held) (y .same) in
+    let h = pends-within k (x .m) (now (x .d)) a (now (x .s)) (x .at) r (x .n) (p .0 .2) (y .least) (y .most) (p .0 .1) (y .none) (p .0 .4) (y .same) in
+    let v = F-sound k (x .m) (now (x .d)) m a (p .0 .2) (p .0 .2) refl (y .held) in
+    let f : Fits m r (x .n) = record { known = p .1 .known; short = y .held; room = omega (arith, p .1 .room, y .least) } in
+    let e : m .outside + m .pending + x .at ≡ x .m .outside + x .m .pending + r = omega (arith, y .least) in
+    let here = in-place m a 2 (p .0 .2) in
+    let b = getD (now (x .s)) r 0 in
+    then-goes q (y .least) e v
+    (subst (λ (t : Moved). Goes k m a a (now (x .s)) r (x .n) t) (sym (c .go .ensures))
+    (goes-of
+    (steps-went k m a b (r + 1) (x .n) (omega arith) (fits-back f) (x .m .c1) (x .m .c2) 3 (FD (x .m .id) (take (m .len) a))
+    (row-at (modeOf k) b here (is-dle b (c .before .if2 .taken)) refl) refl (omega arith) h)
+    (c .before .before .before .if1 .taken) (p .0 .1) (y .whole)))
+
+add-shut : tie.Need-add-shut
+add-shut c = search needs
+
+shut-requires : tie.Need-shut-requires
+shut-requires c κs = search needs
+
+returns-2 : tie.Need-returns-2
+unfolding placeOf
+returns-2 c k =
+    let j = c .before .before .before .before .before in
+    let x = j .before .before .before .args in
+    let p = j .before .before .before .pre in
+    let y = j .fill .ensures in
+    let r = j .fill .result in
+    let a = j .fill .last .0 in
+    let l : length (take (x .m .len) (now (x .d))) ≡ x .m .len = length-take-le (x .m .len) (now (x .d)) (omega (arith, p .0 .3, p .1 .short)) in
+    let m = inner (x .m) (r - x .at) in
+    let q = silent-within k (x .m) (now (x .d)) a (now (x .s)) (x .at) r (x .n) (p .0 .2) (y .least) (y .most) (p .0 .1) (y .none) (p .0 .4) l (y .held) (y .same) in
+    let h = pends-within k (x .m) (now (x .d)) a (now (x .s)) (x .at) r (x .n) (p .0 .2) (y .least) (y .most) (p .0 .1) (y .none) (p .0 .4) (y .same) in
+    let v = F-sound k (x .m) (now (x .d)) m a (p .0 .2) (p .0 .2) refl (y .held) in
+    let f : Fits m r (x .n) = record { known = p .1 .known; short = y .held; room = omega (arith, p .1 .room, y .least) } in
+    let e : m .outside + m .pending + x .at ≡ x .m .outside + x .m .pending + r = omega (arith, y .least) in
+    let here = in-place m a 2 (p .0 .2) in
+    let b = getD (now (x .s)) r 0 in
+    then-goes q (y .least) e v
+    (subst (λ (t : Moved). Goes k m a a (now (x .s)) r (x .n) t) (sym (c .shut .ensures))
+    (goes-of
+    (steps-refused k m a b (r + 1) (x .n) (omega arith) (fits-back f) 4
+    (ap (λ z. next (modeOf k) z b) here
+    ∙ F-other (modeOf k) (x .m .id) (take (m .len) a) b (c .before .if2 .left)
+    ∙ full-join (x .m .id) a (m .len) b _ (y .whole) (y .stop (c .before .before .before .if1 .taken) (c .before .if2 .left))
+    ∙ ap (λ z. refuse 4 (x .m .id) (pending z + 1)) (sym here))
+    (omega (arith, pends-F m a (p .0 .2) h)) h)
+    (c .before .before .before .if1 .taken) (p .0 .1) (y .whole)))
+
+returns-3 : tie.Need-returns-3
+unfolding placeOf
+returns-3 c k =
+    let j = c .before .before in
+    let x = j .before .before .before .args in
+    let p = j .before .before .before .pre in
+    let y = j .fill .ensures in
+    let r = j .fill .result in
+    let a = j .fill .last .0 in
+    let l : length (take (x .m .len) (now (x .d))) ≡ x .m .len = length-take-le (x .m .len) (now (x .d)) (omega (arith, p .0 .3, p .1 .short)) in
+    let m = inner (x .m) (r - x .at) in
+    let q = silent-within k (x .m) (now (x .d)) a (now (x .s)) (x .at) r (x .n) (p .0 .2) (y .least) (y .most) (p .0 .1) (y .none) (p .0 .4) l (y .held) (y .same) in
+    let h = pends-within k (x .m) (now (x .d)) a (now (x .s)) (x .at) r (x .n) (p .0 .2) (y .least) (y .most) (p .0 .1) (y .none) (p .0 .4) (y .same) in
+    let v = F-sound k (x .m) (now (x .d)) m a (p .0 .2) (p .0 .2) refl (y .held) in
+    let f : Fits m r (x .n) = record { known = p .1 .known; short = y .held; room = omega (arith, p .1 .room, y .least) } in
+    let e : m .outside + m .pending + x .at ≡ x .m .outside + x .m .pending + r = omega (arith, y .least) in
+    let here = in-place m a 2 (p .0 .2) in
+    then-stop q (omega arith) (y .most) e f h v (y .whole)
+
+pub in-f-spec : {M : Type 1} → statement M
+in-f-spec =
+    tie.close
+    (tie.spec
+    fill-requires
+    sub-t11
+    add-t12
+    sub-t13
+    cast-t14
+    add-t15
+    shared-slice-read-b
+    add-go
+    go-requires
+    returns
+    add-shut
+    shut-requires
+    returns-2
+    returns-3)
