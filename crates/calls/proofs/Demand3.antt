@@ -15,11 +15,12 @@ use Rattle.line.proofs.Demand3.{demand3 as demand3-seen}
 use Rattle.record.specs.View.{view}
 use Rattle.record.proofs.Answers.{is-said}
 use Rattle.record.specs.Posts.{FreshPost}
-use Rattle.reader.specs.Posts.{FeedPost}
-use Rattle.calls.specs.Calls.{StepPost, Trace, answered}
+use Rattle.record.specs.Posts.{FeedPost}
+use Rattle.record.specs.Posts.{StepPost}
+use Rattle.calls.specs.Calls.{Trace, answered}
 use Rattle.calls.specs.Calls.Trace.{begun, stepped, fed}
 use Rattle.record.specs.declared.Reader.{Reader}
-use Rattle.calls.specs.declared.Stepped.{Stepped}
+use Rattle.record.specs.declared.Stepped.{Stepped}
 use Rattle.record.specs.declared.Fed.{Fed}
 use Rattle.record.specs.declared.Fresh.{Fresh as Made}
 

@@ -16,12 +16,12 @@ use Rattle.line.proofs.Mirror.{keeps-possible}
 use Rattle.line.proofs.SliceSteps.{slice-steps-only, walk-fits}
 use Rattle.record.specs.View.{view, partsOf, shown}
 use Rattle.record.proofs.Answers.{are-shown}
-use Rattle.reader.specs.Posts.{FeedPost}
+use Rattle.record.specs.Posts.{FeedPost}
 use Rattle.reader.proofs.Taking.{low, possible, room, passed}
 use Rattle.calls.specs.Calls.{Steps, answered}
 use Rattle.calls.specs.Calls.Steps.{last, more}
 use Rattle.record.specs.declared.Reader.{Reader}
-use Rattle.calls.specs.declared.Stepped.{Stepped}
+use Rattle.record.specs.declared.Stepped.{Stepped}
 use Rattle.record.specs.declared.Fed.{Fed}
 use Rattle.calls.proofs.Demand3.{step-seen, feed-seen}
 

@@ -1,27 +1,18 @@
--- What a single step returns and leaves, on the record in memory; and demand 3's list of calls on it.
+-- Document 01, "Demand 3, over a list of calls": the list, on the record in memory.
 use mathlib.Core.List.{List, [], _∷_}
 use mathlib.Core.Path.{_≡_}
 use Prim.Native.Nat.{ℕ}
 use Rattle.line.specs.Table.{Event as Said}
-use Rattle.line.specs.Table.Event.{refusal}
-use Rattle.line.specs.Record.{Asked, stepped as after, eventOf}
 use Rattle.line.specs.Calls.{History, stepTook}
 use Rattle.line.specs.Calls.Call.{step, feed}
 use Rattle.line.specs.Calls.History.{start, call}
-use Rattle.record.specs.View.{view, partsOf, shown, said}
-use Rattle.record.specs.Posts.{FreshPost}
+use Rattle.record.specs.View.{partsOf, said}
+use Rattle.record.specs.Posts.{FreshPost, StepPost, FeedPost}
 use Rattle.record.specs.declared.Answer.{Answer}
 use Rattle.record.specs.declared.Reader.{Reader}
 use Rattle.record.specs.declared.Fed.{Fed}
 use Rattle.record.specs.declared.Fresh.{Fresh}
-use Rattle.reader.specs.Posts.{FeedPost}
-use Rattle.calls.specs.declared.Stepped.{Stepped}
-
-pub record StepPost (r : Reader) (b : ℕ) (x : Stepped) : Type 0 where
-  pub asked : Asked (view r) (Unit {0}) (λ v. (x .reader ≡ r) × (partsOf (x .answer) ≡ shown (refusal v 0 0)))
-      ((view (x .reader) ≡ after (view r) b) × (partsOf (x .answer) ≡ shown (eventOf (view r) b)))
-  -- the answer's array, past its data too, is the record's
-  pub array : x .answer .bytes ≡ x .reader .bytes
+use Rattle.record.specs.declared.Stepped.{Stepped}
 
 -- the event that an answer is
 abbrev pub answered : Answer → Said

@@ -2,13 +2,8 @@
 use record::Answer;
 use record::Fed;
 use record::Reader;
-ghost use Rattle.reader.specs.Posts.{FeedPost};
-ghost use Rattle.calls.specs.Calls.{StepPost};
-
-pub struct Stepped {
-    pub reader: Reader,
-    pub answer: Answer,
-}
+use record::Stepped;
+ghost use Rattle.record.specs.Posts.{StepPost, FeedPost};
 
 // The slice call: bytes up to the first event, the end of the slice or the limit.
 pub fn feed(old: Reader, s: &[u8]) -> Fed

@@ -16,7 +16,7 @@ use Rattle.line.specs.Record as Record
 use Rattle.record.specs.declared.Reader.{Reader}
 use Rattle.record.specs.declared.Fed.{Fed}
 use Rattle.record.specs.View.{Parts, view, partsOf, shown}
-use Rattle.reader.specs.Posts.{FeedPost}
+use Rattle.record.specs.Posts.{FeedPost}
 use Rattle.lister.specs.Counting.{one, raised, countShown}
 use Rattle.lister.specs.Posts.{CountPost}
 use Rattle.lister.proofs.PieceLaws.{walk-mode, walk-possible}

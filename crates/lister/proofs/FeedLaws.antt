@@ -14,7 +14,7 @@ use Rattle.line.proofs.SliceSteps.{walk-fits}
 use Rattle.record.specs.declared.Reader.{Reader}
 use Rattle.record.specs.declared.Fed.{Fed}
 use Rattle.record.specs.View.{Parts, view, partsOf, shown}
-use Rattle.reader.specs.Posts.{FeedPost}
+use Rattle.record.specs.Posts.{FeedPost}
 use Rattle.reader.proofs.Taking.{passed}
 use Rattle.lister.specs.Listing.{lineOf, longest, Piece, piece}
 use Rattle.lister.specs.Posts.{numberOf, lineShown}

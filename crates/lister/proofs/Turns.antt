@@ -14,7 +14,7 @@ use Rattle.octets.specs.Placing.{placed}
 use Rattle.octets.proofs.PlacingLaws.{placed-fits, placed-start, placed-nil, length-placed}
 use Rattle.record.specs.declared.Reader.{Reader}
 use Rattle.record.specs.declared.Fed.{Fed}
-use Rattle.reader.specs.Posts.{FeedPost}
+use Rattle.record.specs.Posts.{FeedPost}
 use Rattle.listing.proofs.LineLaws.{after}
 use Rattle.lister.specs.Listing.{longest}
 use Rattle.lister.specs.Posts.{PartPost, numberOf}

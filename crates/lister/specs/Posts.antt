@@ -9,7 +9,7 @@ use Rattle.record.specs.declared.Reader.{Reader}
 use Rattle.record.specs.declared.Event.{Event}
 use Rattle.record.specs.declared.Event.the-variants.{Nothing, Message, Refusal}
 use Rattle.record.specs.View.{view}
-use Rattle.reader.specs.declared.InPlace.{InPlace}
+use Rattle.record.specs.declared.InPlace.{InPlace}
 use Rattle.listing.specs.Text.{eventLine}
 use Rattle.lister.specs.declared.Part.{Part}
 use Rattle.listing.specs.Totals.{Counts, totalOf}

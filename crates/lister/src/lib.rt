@@ -2,7 +2,7 @@
 // The listing of a whole slice, by a fresh reader.
 use octets::Written;
 use record::Reader;
-use reader::InPlace;
+use record::InPlace;
 use record::Event;
 ghost use mathlib.Core.Bool.{true, cond};
 ghost use mathlib.Core.Path.{_≡_};

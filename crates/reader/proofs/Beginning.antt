@@ -11,7 +11,7 @@ use Rattle.line.specs.Frame.{modeOf}
 use Rattle.line.specs.Record.{Possible, limit, stateOf, walk, PlaceOk}
 use Rattle.record.specs.View.{placeOf, dataOf, view}
 use Rattle.latest.specs.Latest.{latestOf}
-use Rattle.reader.specs.FramePosts.{Ready}
+use Rattle.reader.specs.Closing.{Ready}
 use Rattle.reader.specs.Moving.{see, placeNow, startOf, baseOf, turned, resultOf, Pends, Sound, Fits, Ran}
 use Rattle.record.specs.declared.Reader.{Reader}
 use Rattle.reader.specs.declared.Moved.{Moved}

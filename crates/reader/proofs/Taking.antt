@@ -12,7 +12,7 @@ use Rattle.line.proofs.SliceSteps.{possible-stable}
 use Rattle.record.specs.View.{view, partsOf, shown}
 use Rattle.record.specs.declared.Reader.{Reader}
 use Rattle.record.specs.declared.Fed.{Fed}
-use Rattle.reader.specs.Posts.{FeedPost}
+use Rattle.record.specs.Posts.{FeedPost}
 
 module _ (r : Reader) (l : List ℕ) (x : Fed) (q : FeedPost r l x) (h : 0 < x .taken) where
   pub low : r .head .mode ≤ 1

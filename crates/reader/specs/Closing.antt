@@ -3,17 +3,22 @@ use mathlib.Core.Bool.{Bool, true, false}
 use mathlib.Core.List.{List}
 use mathlib.Core.Option.{Option}
 use mathlib.Core.Path.{_≡_}
-use Prim.Native.Nat.{ℕ, _+_, _-_, _≤_}
+use Prim.Native.Nat.{ℕ, _+_, _-_, _≤_, _<_}
 use lib.Dec.{eqb}
-use lib.ListN.{take}
+use lib.ListN.{length, take}
 use Rattle.line.specs.Frame.{Acceptable}
 use Rattle.line.specs.Table.Event.{message}
-use Rattle.line.specs.Record.{Rec, Kept, update}
-use Rattle.record.specs.View.{placeOf, dataOf, shown}
+use Rattle.line.specs.Record.{Rec, Kept, limit, update, walk}
+use Rattle.latest.specs.Latest.{latestOf}
+use Rattle.latest.specs.declared.Latest.{Latest}
+use Rattle.record.specs.View.{placeOf, dataOf, view, shown}
+use Rattle.record.specs.declared.InPlace.{InPlace}
+use Rattle.record.specs.declared.Reader.{Reader}
 use Rattle.record.specs.declared.Head.{Head}
 use Rattle.record.specs.declared.Event.the-variants.{Nothing, Message, Refusal}
-use Rattle.reader.specs.Moving.{Out}
+use Rattle.reader.specs.Moving.{Out, Busy, baseOf, resultOf, turned}
 use Rattle.reader.specs.declared.Moving.{Moving}
+use Rattle.reader.specs.declared.Moved.{Moved}
 use Rattle.reader.specs.declared.Closed.{Closed}
 
 -- the head after a call, but for accepted and refused
@@ -99,3 +104,18 @@ pub record Finishes (l : Kept → Option (List ℕ)) (o : Out) (a : List ℕ) (c
   pub said : record { event = c .event; id = c .id; body = dataOf (c .len) a; closed = c .closed } ≡ shown (o .event)
   pub short : c .len ≤ 1024
   pub good : c .keep ≡ true → Acceptable (c .id) (take (c .len) a)
+
+-- what t leaves to do, over the array a, is what the slice s comes to on the record r; and it can be done
+pub record Ready (r : Reader) (a s : List ℕ) (t : Moved) : Type 0 where
+  pub says : walk (view r) s
+      ≡ resultOf (turned (r .head .mode) (baseOf (r .head) (latestOf (r .latest))) (t .act) (t .now) (t .last) a (r .head .fed + t .at)) (t .at)
+  pub room : r .head .fed + t .at ≤ limit
+  pub sum : r .head .fed + t .at ≡ r .head .accepted + r .head .refused + t .now .outside + t .now .pending
+  pub known : t .now .place < 8
+  pub short : t .now .len ≤ 1024
+  pub busy : Busy (t .act) (t .now)
+  pub whole : length a ≡ 1024
+
+-- a call that one of questions 1 to 3 refuses
+abbrev pub refusedBy : Head → Latest → ℕ → InPlace
+refusedBy h l v = record { head = h; latest = l; event = Refusal v; id = 0; len = 0; closed = 0; taken = 0 }

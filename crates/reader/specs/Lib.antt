@@ -1,4 +1,2 @@
-pub mod Posts
-pub mod Closing
 pub mod Moving
-pub mod FramePosts
+pub mod Closing

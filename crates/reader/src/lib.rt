@@ -1,22 +1,22 @@
-// The slice call, in place: bytes up to the first event, the end of the slice or the limit.
-// Framing: the bytes of a slice from place to place, up to the first that raises an event.
+// The slice call, in place: questions 1 to 3, then the bytes from place to place up to the first event, the end of the slice or the
+// limit, then what that comes to.
 use latest::Latest;
-use record::Head;
-use record::Reader;
+use record::Count;
 use record::Event;
+use record::Head;
+use record::InPlace;
+use record::Reader;
+ghost use mathlib.Core.Bool.{false};
 ghost use mathlib.Core.List.{List};
+ghost use mathlib.Core.Option.{Option};
 ghost use mathlib.Core.Path.{_≡_};
 ghost use Prim.Native.Nat.{ℕ, _+_, _-_, _<_, _≤_};
 ghost use lib.ListN.{length, take};
-ghost use Rattle.line.specs.Record.{limit, Kept};
-ghost use Rattle.reader.specs.Moving.{Skips, Copied, Fills, Fits, Pends, Sound, Steps, Goes, Ran, went, passed, opened, shut as shutOf, startOf};
-ghost use Rattle.reader.specs.FramePosts.{FramePost};
-ghost use mathlib.Core.Bool.{false};
-ghost use mathlib.Core.Option.{Option};
 ghost use Rattle.line.specs.Frame.{modeOf, judge as judgeOf};
-ghost use Rattle.reader.specs.Moving.{Busy, turned, baseOf};
-ghost use Rattle.reader.specs.Posts.{InPlacePost};
-ghost use Rattle.reader.specs.Closing.{Finishes, headWith, resumed, reopenedBy, concludedBy, concluded};
+ghost use Rattle.line.specs.Record.{limit, Kept};
+ghost use Rattle.record.specs.Posts.{InPlacePost};
+ghost use Rattle.reader.specs.Moving.{Skips, Copied, Fills, Fits, Pends, Sound, Steps, Goes, Ran, Busy, went, passed, opened, shut as shutOf, startOf, turned, baseOf};
+ghost use Rattle.reader.specs.Closing.{Finishes, headWith, resumed, reopenedBy, concludedBy, concluded, refusedBy};
 
 // The numbers that move in a slice call.
 pub struct Moving {
@@ -25,8 +25,8 @@ pub struct Moving {
     pub c1: u8,
     pub c2: u8,
     pub len: usize,
-    pub outside: u32,
-    pub pending: u32,
+    pub outside: Count,
+    pub pending: Count,
 }
 
 // What is left to do after the numbers have moved.
@@ -44,14 +44,8 @@ pub struct Moved {
     pub at: usize,
 }
 
-// Questions 1 to 3, and where they are all yes, what has moved. Where one is not, nothing has.
-pub struct Framed {
-    pub refusal: u8,
-    pub moved: Moved,
-}
-
 // How many bytes of n can be counted.
-fn span(fed: u32, n: usize) -> usize
+fn span(fed: Count, n: usize) -> usize
     ensures { λ r. ⌜ (r ≤ n) × (fed + r ≤ limit) × (r < n → fed + r ≡ limit) ⌝ }
 {
     let most = (Reader::LIMIT - fed) as usize;
@@ -222,7 +216,7 @@ fn in_w(m: Moving, s: &[u8], at: usize, n: usize) -> Moved
         c1: m.c1,
         c2: m.c2,
         len: m.len,
-        outside: m.outside + (to - at) as u32,
+        outside: m.outside + (to - at) as Count,
         pending: m.pending,
     };
     if to < n {
@@ -263,7 +257,7 @@ fn in_f(m: Moving, d: &mut [u8; 1024], s: &[u8], at: usize, n: usize) -> Moved
         c2: m.c2,
         len: len + (to - at),
         outside: m.outside,
-        pending: m.pending + (to - at) as u32,
+        pending: m.pending + (to - at) as Count,
     };
     if to < n {
         let b = s[to];
@@ -464,51 +458,14 @@ fn start(h: Head) -> Moving
     }
 }
 
-// Asks questions 1 to 3 of a record of these parts, then moves over bytes up to the first event, the end of the slice or the limit.
-pub fn frame(h: Head, l: Latest, d: &mut [u8; 1024], s: &[u8]) -> Framed
-    ensures { λ x. ⌜ FramePost h l (now (d .entry)) (now (d .exit)) (now (s .entry)) x ⌝ }
-{
-    let m = start(h);
-    let v = questions::question(h, l, d, s.len());
-    if v != 0 {
-        let t = Moved {
-            now: m,
-            act: Act::Quiet,
-            last: 0,
-            at: 0,
-        };
-        return Framed {
-            refusal: v,
-            moved: t,
-        };
-    }
-    let n = span(h.fed, s.len());
-    let t = run(h.mode, m, d, s, n);
-    Framed {
-        refusal: 0,
-        moved: t,
-    }
-}
-
 // What an act comes to: the head, the answer's parts, and whether a message was given.
 pub struct Closed {
     pub head: Head,
     pub event: Event,
     pub id: u8,
     pub len: usize,
-    pub closed: u32,
+    pub closed: Count,
     pub keep: bool,
-}
-
-// What a call in place leaves and answers: the record but for its array, the answer but for its data.
-pub struct InPlace {
-    pub head: Head,
-    pub latest: Latest,
-    pub event: Event,
-    pub id: u8,
-    pub len: usize,
-    pub closed: u32,
-    pub taken: usize,
 }
 
 // Questions 9 to 12 of a frame that ends.
@@ -529,7 +486,7 @@ fn judge(mode: u8, id: u8, d: &[u8], len: usize, c1: u8, c2: u8) -> u8
 }
 
 // The head after a call, but for accepted and refused.
-fn put(h: Head, m: Moving, at: usize, place: u8, id: u8, len: usize, pending: u32) -> Head
+fn put(h: Head, m: Moving, at: usize, place: u8, id: u8, len: usize, pending: Count) -> Head
     requires { ⌜ h .fed + at ≤ limit ⌝ }
     ensures { λ r. ⌜ r ≡ headWith h m at place id len pending ⌝ }
 {
@@ -544,7 +501,7 @@ fn put(h: Head, m: Moving, at: usize, place: u8, id: u8, len: usize, pending: u3
         refused: h.refused,
         outside: m.outside,
         pending: pending,
-        fed: h.fed + at as u32,
+        fed: h.fed + at as Count,
     }
 }
 
@@ -639,24 +596,32 @@ fn finish(h: Head, t: Moved, d: &[u8]) -> Closed
     }
 }
 
+// A call that one of questions 1 to 3 refuses: the record as it was, and an answer with nothing in it.
+fn refuse(h: Head, l: Latest, v: u8) -> InPlace
+    ensures { λ x. ⌜ x ≡ refusedBy h l v ⌝ }
+{
+    InPlace {
+        head: h,
+        latest: l,
+        event: Event::Refusal(v),
+        id: 0,
+        len: 0,
+        closed: 0,
+        taken: 0,
+    }
+}
+
 // The slice call on a record whose array stays where it is. A message's data are the array's first `len` bytes.
 pub fn feed_in_place(h: Head, l: Latest, d: &mut [u8; 1024], s: &[u8]) -> InPlace
     ensures { λ x. ⌜ InPlacePost h l (now (d .entry)) (now (d .exit)) (now (s .entry)) x ⌝ }
 {
-    let f = frame(h, l, d, s);
-    let v = f.refusal;
+    let v = questions::question(h, l, d, s.len());
     if v != 0 {
-        return InPlace {
-            head: h,
-            latest: l,
-            event: Event::Refusal(v),
-            id: 0,
-            len: 0,
-            closed: 0,
-            taken: 0,
-        };
+        return refuse(h, l, v);
     }
-    let t = f.moved;
+    let m = start(h);
+    let n = span(h.fed, s.len());
+    let t = run(h.mode, m, d, s, n);
     let o = finish(h, t, d);
     let g = o.head;
     let e = o.event;

@@ -49,9 +49,27 @@ pub struct Fresh {
     pub reader: Reader,
 }
 
+// What a single step returns: the record afterwards, and the answer.
+pub struct Stepped {
+    pub reader: Reader,
+    pub answer: Answer,
+}
+
+// What a slice call returns: the same, and how many bytes it took.
 pub struct Fed {
     pub reader: Reader,
     pub answer: Answer,
+    pub taken: usize,
+}
+
+// What a slice call returns that has the record's array lent: the record but for its array, the answer but for its data.
+pub struct InPlace {
+    pub head: Head,
+    pub latest: Latest,
+    pub event: Event,
+    pub id: u8,
+    pub len: usize,
+    pub closed: Count,
     pub taken: usize,
 }
 

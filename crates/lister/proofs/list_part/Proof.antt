@@ -7,8 +7,8 @@ use borrow.Author.Needs.{needs}
 use lib.ListN.{length, take, drop, length-drop}
 use lib.Seq.{length-take-le}
 use Rattle.record.specs.View.{recordOf}
-use Rattle.reader.specs.Posts.{FeedPost, InPlacePost, fedOf}
-use Rattle.reader.specs.declared.InPlace.{InPlace}
+use Rattle.record.specs.Posts.{FeedPost, InPlacePost, fedOf}
+use Rattle.record.specs.declared.InPlace.{InPlace}
 use Rattle.reader.proofs.Giving.{feeds}
 use Rattle.lister.specs.Listing.{longest}
 use Rattle.lister.specs.Posts.{PartPost}

@@ -1,28 +1,100 @@
--- `reader::feed_in_place` meets its contract: questions 1 to 3, then the bytes.
-use mathlib.Core.Path.{_≡_, refl, sym, ap, _∙_}
-use mathlib.Core.List.{[]}
+-- `reader::feed_in_place` meets its contract: questions 1 to 3, then the bytes, then what they come to.
+use mathlib.Core.List.{List}
+use mathlib.Core.Path.{_≡_, refl, sym, ap, _∙_, subst}
+use Prim.Native.Nat.{ℕ}
 use lib.ListN.{length, take}
+use denote.Ref.{now}
+use Rattle.line.specs.Record.{Result, walk}
 use Rattle.latest.specs.Latest.{latestOf}
 use Rattle.latest.proofs.Storing.{stored-acceptable}
-use Rattle.record.specs.View.{recordOf}
-use Rattle.reader.specs.Closing.{storedBy}
-use Rattle.reader.proofs.Giving.{gives, answers, refuses}
+use Rattle.latest.specs.declared.Latest.{Latest}
+use Rattle.record.specs.View.{view, recordOf}
+use Rattle.record.specs.Posts.{InPlacePost, fedOf}
+use Rattle.record.specs.declared.Reader.{Reader}
+use Rattle.record.specs.declared.InPlace.{InPlace}
+use Rattle.questions.specs.Question.{Valid}
+use Rattle.reader.specs.Moving.{Pends, Sound, Fits, Ran, resultOf}
+use Rattle.reader.specs.Closing.{Ready, storedBy}
+use Rattle.reader.specs.declared.Moving.{Moving}
+use Rattle.reader.proofs.Beginning.{start-pends, start-sound, start-fits, ready-of}
+use Rattle.reader.proofs.Giving.{Comes, out, gives, refuses, answers}
 use Rattle.reader.proofs.feed_in_place.Statement.{statement}
 use Rattle.reader.proofs.feed_in_place.Tie as tie
 
-frame-requires : tie.Need-frame-requires
-frame-requires c κs = tt
+abbrev of : tie.Start → Reader
+of s = recordOf (s .args .h) (s .args .l) (now (s .args .d))
+
+abbrev asked : tie.Else1 → tie.Start
+asked i = i .before .before .before .before .before
+
+-- all questions are yes
+valid : (i : tie.Else1) → Valid (of (asked i))
+valid i = i .before .question .ensures .valid (i .if1 .left)
+
+abbrev passed : tie.After-run → tie.Else1
+passed k = k .before .before .before .before
+
+-- the array afterwards
+abbrev left : tie.After-run → List ℕ
+left k = k .run .last .1 .1 .0
+
+ready : (k : tie.After-run) → Ready (of (asked (passed k))) (left k) (now (asked (passed k) .args .s)) (k .run .result)
+ready k =
+    let n = k .before .before .span in
+    let i = passed k in
+    let r = of (asked i) in
+    let v = valid i in
+    let s = now (asked i .args .s) in
+    ready-of r (v .whole) (v .possible) s (n .result) (k .run .result) (left k)
+    (subst (λ (m : Moving). Ran (r .head .mode) m (r .bytes) (left k) s (n .result) (k .run .result)) (k .before .before .before .start .ensures) (k .run .ensures))
+    (n .ensures .1) (n .ensures .2)
+
+-- what is returned, once it is what the act comes to
+given : (k : tie.After-run) (x : InPlace)
+    → Comes (resultOf (out (recordOf (asked (passed k) .args .h) (asked (passed k) .args .l) (left k)) (k .run .result)) (k .run .result .at)) (fedOf x (left k))
+    → InPlacePost (asked (passed k) .args .h) (asked (passed k) .args .l) (now (asked (passed k) .args .d)) (left k) (now (asked (passed k) .args .s)) x
+given k x c =
+    let i = passed k in
+    answers (of (asked i)) (now (asked i .args .s)) (i .before .question .result) (i .before .question .ensures) (i .if1 .left) (left k) x
+    (ready k .whole)
+    (subst (λ (w : Result). Comes w (fedOf x (left k))) (sym (ready k .says)) c)
+
+question-requires : tie.Need-question-requires
+question-requires c κs = tt
+
+refuse-requires : tie.Need-refuse-requires
+refuse-requires c κs = tt
 
 returns : tie.Need-returns
 returns c =
-    let f = c .before in
-    let x = f .before .before .before .args in
-    refuses (recordOf (x .h) (x .l) (x .d .now)) (f .frame .last .1 .1 .0) (x .s .now) (f .frame .result) (f .frame .ensures) (c .if1 .taken)
+    let q = c .before .before in
+    let s = q .before .before .before .before in
+    subst (λ (x : InPlace). InPlacePost (s .args .h) (s .args .l) (now (s .args .d)) (now (s .args .d)) (now (s .args .s)) x) (sym (c .refuse .ensures))
+    (refuses (of s) (now (s .args .s)) (q .question .result) (q .question .ensures) (c .before .if1 .taken))
+
+start-requires : tie.Need-start-requires
+start-requires c κs = tt
+
+span-requires : tie.Need-span-requires
+span-requires c κs = tt
+
+run-requires : tie.Need-run-requires
+run-requires c κs =
+    let n = c .before .span in
+    let i = c .before .before .before in
+    let r = of (asked i) in
+    let v = valid i in
+    let e = sym (c .before .before .start .ensures) in (
+      (n .ensures .0, v .whole, subst (λ (m : Moving). Pends m (r .bytes)) e (start-pends r (v .whole) (v .possible))),
+      (
+        subst (λ (m : Moving). Fits m 0 (n .result)) e (start-fits r (v .whole) (v .possible) (n .result) (n .ensures .1)),
+        subst (λ (m : Moving). Sound (r .head .mode) m (r .bytes)) e (start-sound r (v .whole) (v .possible)),
+      ),
+    )
 
 finish-requires : tie.Need-finish-requires
 finish-requires c κs =
-    let i = c .before .before .before in
-    let y = i .before .frame .ensures .ready (i .if1 .left) in
+    let y = ready (c .before .before) in
     ((y .room, y .sum), ((y .known, y .short, y .whole), y .busy))
 
 store-requires : tie.Need-store-requires
@@ -30,30 +102,38 @@ store-requires c κs = tt
 
 returns-2 : tie.Need-returns-2
 returns-2 c =
-    let k = c .before .before .before in
-    let o = k .before .before in
-    let i = o .before .before .before .before in
-    let f = i .before in
-    let x = f .before .before .before .args in
-    let a = f .frame .last .1 .1 .0 in
+    let t = c .before .before .before in
+    let o = t .before .before in
+    let k = o .before .before .before in
+    let x = asked (passed k) .args in
     let z = o .finish .ensures (latestOf (x .l)) in
-    answers (recordOf (x .h) (x .l) (x .d .now)) a (x .s .now) (f .frame .result) _ (f .frame .ensures) (i .if1 .left)
-    (gives (recordOf (x .h) (x .l) a) (f .frame .result .moved) (o .finish .result) (c .store .result) z
+    given k _
+    (gives (recordOf (x .h) (x .l) (left k)) (k .run .result) (o .finish .result) (c .store .result) z
     (λ j.
     c .store .ensures j
-    ∙ stored-acceptable (o .finish .result .id) (take (o .finish .result .len) a) (latestOf (x .l)) (z .good (k .if2 .taken)) j
-    ∙ ap (λ t. storedBy t (o .finish .result .id) (take (o .finish .result .len) a) (latestOf (x .l)) j) (sym (k .if2 .taken))))
+    ∙ stored-acceptable (o .finish .result .id) (take (o .finish .result .len) (left k)) (latestOf (x .l)) (z .good (t .if2 .taken)) j
+    ∙ ap (λ u. storedBy u (o .finish .result .id) (take (o .finish .result .len) (left k)) (latestOf (x .l)) j) (sym (t .if2 .taken))))
 
 returns-3 : tie.Need-returns-3
 returns-3 c =
     let o = c .before .before in
-    let i = o .before .before .before .before in
-    let f = i .before in
-    let x = f .before .before .before .args in
-    let a = f .frame .last .1 .1 .0 in
-    answers (recordOf (x .h) (x .l) (x .d .now)) a (x .s .now) (f .frame .result) _ (f .frame .ensures) (i .if1 .left)
-    (gives (recordOf (x .h) (x .l) a) (f .frame .result .moved) (o .finish .result) (x .l) (o .finish .ensures (latestOf (x .l)))
-    (λ j. ap (λ t. storedBy t (o .finish .result .id) (take (o .finish .result .len) a) (latestOf (x .l)) j) (sym (c .if2 .left))))
+    let k = o .before .before .before in
+    let x = asked (passed k) .args in
+    given k _
+    (gives (recordOf (x .h) (x .l) (left k)) (k .run .result) (o .finish .result) (x .l) (o .finish .ensures (latestOf (x .l)))
+    (λ j. ap (λ u. storedBy u (o .finish .result .id) (take (o .finish .result .len) (left k)) (latestOf (x .l)) j) (sym (c .if2 .left))))
 
 pub feed-in-place-spec : {M : Type 1} → statement M
-feed-in-place-spec = tie.close (tie.spec frame-requires returns finish-requires store-requires returns-2 returns-3)
+feed-in-place-spec =
+    tie.close
+    (tie.spec
+    question-requires
+    refuse-requires
+    returns
+    start-requires
+    span-requires
+    run-requires
+    finish-requires
+    store-requires
+    returns-2
+    returns-3)
