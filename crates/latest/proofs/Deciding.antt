@@ -4,7 +4,7 @@ use mathlib.Core.Path.{_≡_, sym, subst}
 use Prim.Native.Nat.{ℕ}
 use borrow.Author.Tests.{eqb-true, eqb-false, not-true, not-false}
 use lib.Dec.{eqb}
-use Rattle.latest.specs.Deciding.{Decides}
+use Rattle.octets.specs.Deciding.{Decides}
 
 pub decides-zero : (n : ℕ) (t : Bool) → t ≡ eqb n 0 → Decides (n ≡ 0) t
 decides-zero n true e = eqb-true n 0 (sym e)

@@ -8,7 +8,7 @@ ghost use Rattle.latest.specs.Stored.{sizeFor, storedOf};
 ghost use lib.Dec.{eqb};
 ghost use Rattle.kinds.specs.Kinds.{content};
 ghost use Rattle.line.specs.Record.Kept.{k43, k46, kEB};
-ghost use Rattle.latest.specs.Deciding.{Decides};
+ghost use Rattle.octets.specs.Deciding.{Decides};
 ghost use Rattle.latest.specs.Latest.{latestOf, LatestOk};
 
 // The latest message of each kind that is kept: whether there is one, and its data.

@@ -1,12 +1,13 @@
 // Questions 1 to 3: whether a call can use a record.
 use latest::Latest;
+use record::Count;
 use record::Head;
 use record::Reader;
 ghost use mathlib.Core.Path.{_≡_};
 ghost use Prim.Native.Nat.{_+_, _≤_};
 ghost use lib.ListN.{length, take};
 ghost use Rattle.stuffing.specs.Stuffing.{dles};
-ghost use Rattle.latest.specs.Deciding.{Decides};
+ghost use Rattle.octets.specs.Deciding.{Decides};
 ghost use Rattle.record.specs.View.{recordOf};
 ghost use Rattle.questions.specs.Question.{Usable, Opened, Plausible, Questions};
 
@@ -26,14 +27,14 @@ fn usable(id: u8) -> bool
 fn open(h: Head) -> bool
     ensures { λ r. ⌜ Decides (Opened h) r ⌝ }
 {
-    if 8 <= h.place {
+    if Reader::PLACES <= h.place {
         return false;
     }
-    if 1024 < h.len {
+    if Reader::CAPACITY < h.len {
         return false;
     }
     if h.mode == 0 {
-        if 4 <= h.place {
+        if Reader::C0 <= h.place {
             return false;
         }
         return usable(h.id);
@@ -41,12 +42,22 @@ fn open(h: Head) -> bool
     usable(h.id)
 }
 
-// Whether fed is the sum of the other four counts, which may be wider than each.
+// Whether fed is the sum of the other four counts: by differences, since the sum may be wider than each.
 fn balanced(h: Head) -> bool
     ensures { λ r. ⌜ Decides (h .fed ≡ h .accepted + h .refused + h .outside + h .pending) r ⌝ }
 {
-    let sum = h.accepted as u64 + h.refused as u64 + h.outside as u64 + h.pending as u64;
-    if h.fed as u64 == sum { true } else { false }
+    if h.fed < h.accepted {
+        return false;
+    }
+    let rest = h.fed - h.accepted;
+    if rest < h.refused {
+        return false;
+    }
+    let open = rest - h.refused;
+    if open < h.outside {
+        return false;
+    }
+    if open - h.outside == h.pending { true } else { false }
 }
 
 // The pending bytes of an open frame: its place, its data and each DLE among them once more.
@@ -68,8 +79,8 @@ fn plausible(h: Head, l: Latest) -> bool
     if !latest::acceptable(l) {
         return false;
     }
-    if h.place < 2 {
-        if h.pending == h.place as u32 {
+    if h.place < Reader::F {
+        if h.pending == h.place as Count {
             return true;
         }
         return false;
@@ -85,13 +96,13 @@ pub fn question(h: Head, l: Latest, d: &[u8], n: usize) -> u8
     if 2 <= h.mode {
         return 1;
     }
-    if d.len() != 1024 {
+    if d.len() != Reader::CAPACITY {
         return 2;
     }
     if !plausible(h, l) {
         return 2;
     }
-    if 2 <= h.place {
+    if Reader::F <= h.place {
         if h.pending as usize != pending_of(h, d) {
             return 2;
         }

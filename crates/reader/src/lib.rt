@@ -58,8 +58,8 @@ fn bound(len: usize, from: usize, n: usize) -> usize
     requires { ⌜ from ≤ n ⌝ }
     ensures { λ r. ⌜ (from ≤ r) × (r ≤ n) × (len + (r - from) ≤ 1024) × (r < n → len + (r - from) ≡ 1024) ⌝ }
 {
-    if 1024 - len < n - from {
-        from + (1024 - len)
+    if Reader::CAPACITY - len < n - from {
+        from + (Reader::CAPACITY - len)
     } else {
         n
     }
@@ -143,7 +143,7 @@ fn pass_by(m: Moving, at: usize) -> Moved
     ensures { λ r. ⌜ r ≡ passed m at ⌝ }
 {
     let n = Moving {
-        place: 0,
+        place: Reader::W,
         id: m.id,
         c1: m.c1,
         c2: m.c2,
@@ -165,7 +165,7 @@ fn begin(m: Moving, b: u8, at: usize) -> Moved
     ensures { λ r. ⌜ r ≡ opened m b at ⌝ }
 {
     let n = Moving {
-        place: 2,
+        place: Reader::F,
         id: b,
         c1: m.c1,
         c2: m.c2,
@@ -220,7 +220,7 @@ fn in_w(m: Moving, s: &[u8], at: usize, n: usize) -> Moved
         pending: m.pending,
     };
     if to < n {
-        return go(w, 1, to + 1);
+        return go(w, Reader::WD, to + 1);
     }
     Moved {
         now: w,
@@ -262,7 +262,7 @@ fn in_f(m: Moving, d: &mut [u8; 1024], s: &[u8], at: usize, n: usize) -> Moved
     if to < n {
         let b = s[to];
         if b == Reader::DLE {
-            return go(w, 3, to + 1);
+            return go(w, Reader::FD, to + 1);
         }
         return shut(w, Act::Refused(4), b, to + 1);
     }
@@ -284,7 +284,7 @@ fn in_fd(mode: u8, m: Moving, d: &mut [u8; 1024], b: u8, at: usize, n: usize) ->
     match b {
         Reader::DLE => {
             let k = m.len;
-            if k < 1024 {
+            if k < Reader::CAPACITY {
                 d[k] = b;
                 let w = Moving {
                     place: m.place,
@@ -295,7 +295,7 @@ fn in_fd(mode: u8, m: Moving, d: &mut [u8; 1024], b: u8, at: usize, n: usize) ->
                     outside: m.outside,
                     pending: m.pending,
                 };
-                go(w, 2, at)
+                go(w, Reader::F, at)
             } else {
                 shut(m, Act::Refused(4), b, at)
             }
@@ -308,7 +308,7 @@ fn in_fd(mode: u8, m: Moving, d: &mut [u8; 1024], b: u8, at: usize, n: usize) ->
         Reader::SUM => if mode == 0 {
             shut(m, Act::Refused(7), b, at)
         } else {
-            go(m, 4, at)
+            go(m, Reader::C0, at)
         },
         0..=2 | 4..=15 | 17..=254 => shut(m, Act::Reopened(5), b, at),
     }
@@ -329,7 +329,7 @@ fn in_c0(m: Moving, b: u8, at: usize, n: usize) -> Moved
         outside: m.outside,
         pending: m.pending,
     };
-    go(w, 5, at)
+    go(w, Reader::C1, at)
 }
 
 // C1: the second byte of the checksum.
@@ -347,7 +347,7 @@ fn in_c1(m: Moving, b: u8, at: usize, n: usize) -> Moved
         outside: m.outside,
         pending: m.pending,
     };
-    go(w, 6, at)
+    go(w, Reader::E, at)
 }
 
 // E: the DLE of the end.
@@ -357,7 +357,7 @@ fn in_e(m: Moving, b: u8, at: usize, n: usize) -> Moved
     ensures { λ r. ⌜ ((k : ℕ) (a : List ℕ) → length a ≡ 1024 → Pends m a → Steps k m a a b at n r) ⌝ }
 {
     if b == Reader::DLE {
-        go(m, 7, at)
+        go(m, Reader::ED, at)
     } else {
         shut(m, Act::Refused(8), b, at)
     }
@@ -386,13 +386,13 @@ fn advance(mode: u8, m: Moving, d: &mut [u8; 1024], s: &[u8], at: usize, n: usiz
     let next = at + 1;
     let place = m.place;
     match place {
-        0 => in_w(m, s, at, n),
-        1 => in_wd(m, b, next, n),
-        2 => in_f(m, d, s, at, n),
-        3 => in_fd(mode, m, d, b, next, n),
-        4 => in_c0(m, b, next, n),
-        5 => in_c1(m, b, next, n),
-        6 => in_e(m, b, next, n),
+        Reader::W => in_w(m, s, at, n),
+        Reader::WD => in_wd(m, b, next, n),
+        Reader::F => in_f(m, d, s, at, n),
+        Reader::FD => in_fd(mode, m, d, b, next, n),
+        Reader::C0 => in_c0(m, b, next, n),
+        Reader::C1 => in_c1(m, b, next, n),
+        Reader::E => in_e(m, b, next, n),
         _ => in_ed(m, b, next, n),
     }
 }
@@ -436,7 +436,7 @@ fn run(mode: u8, m0: Moving, d: &mut [u8; 1024], s: &[u8], n: usize) -> Moved
 fn start(h: Head) -> Moving
     ensures { λ r. ⌜ r ≡ startOf h ⌝ }
 {
-    if h.place < 2 {
+    if h.place < Reader::F {
         return Moving {
             place: h.place,
             id: h.id,
@@ -526,7 +526,7 @@ fn dismiss(h: Head, m: Moving, at: usize, v: u8) -> Closed
     requires { ⌜ (h .fed + at ≤ limit) × (h .refused + m .pending ≤ limit) ⌝ }
     ensures { λ r. ⌜ r ≡ concludedBy false h m at v ⌝ }
 {
-    let mut g = put(h, m, at, 0, m.id, m.len, 0);
+    let mut g = put(h, m, at, Reader::W, m.id, m.len, 0);
     g.refused = h.refused + m.pending;
     Closed {
         head: g,
@@ -543,7 +543,7 @@ fn reopen(h: Head, m: Moving, b: u8, at: usize, v: u8) -> Closed
     requires { ⌜ (h .fed + at ≤ limit) × (h .refused + m .pending ≤ limit) × (2 ≤ m .pending) ⌝ }
     ensures { λ r. ⌜ r ≡ reopenedBy h m b at v ⌝ }
 {
-    let mut g = put(h, m, at, 2, b, 0, 2);
+    let mut g = put(h, m, at, Reader::F, b, 0, 2);
     g.refused = h.refused + (m.pending - 2);
     Closed {
         head: g,
@@ -563,7 +563,7 @@ fn conclude(h: Head, m: Moving, at: usize, v: u8) -> Closed
     if v != 0 {
         return dismiss(h, m, at, v);
     }
-    let mut g = put(h, m, at, 0, m.id, m.len, 0);
+    let mut g = put(h, m, at, Reader::W, m.id, m.len, 0);
     g.accepted = h.accepted + m.pending;
     Closed {
         head: g,

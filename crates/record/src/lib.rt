@@ -81,6 +81,28 @@ impl Reader {
 
     pub const SUM: u8 = 0xFF;
 
+    // The places, numbered in the paper's order, and how many there are.
+    pub const W: u8 = 0;
+
+    pub const WD: u8 = 1;
+
+    pub const F: u8 = 2;
+
+    pub const FD: u8 = 3;
+
+    pub const C0: u8 = 4;
+
+    pub const C1: u8 = 5;
+
+    pub const E: u8 = 6;
+
+    pub const ED: u8 = 7;
+
+    pub const PLACES: u8 = 8;
+
+    // The data bytes that a frame may have.
+    pub const CAPACITY: usize = 1024;
+
     // The largest number of bytes that can be counted.
     pub const LIMIT: Count = 4294967295;
 
@@ -90,7 +112,7 @@ impl Reader {
     {
         let head = Head {
             mode: mode,
-            place: 0,
+            place: Reader::W,
             id: 0,
             c1: 0,
             c2: 0,
