@@ -9,7 +9,7 @@ use borrow.Author.Tests.{eqb-true}
 use lib.Dec.{eqb}
 use lib.ListN.{length}
 use Rattle.ranges.specs.Ranges.{byte, free, in43, in46, inEB}
-use Rattle.kinds.specs.Kinds.{Row, only, table, rowIn, allows, chosen49, lengthOk, judged, content}
+use Rattle.kinds.specs.Kinds.{Row, only, table, rowIn, allows, chosen49, lengthOk, judged, content, oneLength, lengthOf}
 
 module _ (id n : ℕ) (f : List ℕ → Bool) (row : rowIn table id ≡ some (only id n f)) (plain : eqb id 0x49 ≡ false) where
   -- what the row answers, by whether the length is the row's
@@ -37,6 +37,7 @@ module _ (id n : ℕ) (f : List ℕ → Bool) (row : rowIn table id ≡ some (on
       go true q z = eqb-true (length d) n q
       go false q z = absurd (omega arith)
 
+-- the kinds that a reader keeps
 row-43 : rowIn table 0x43 ≡ some (only 0x43 6 in43)
 unfolding table rowIn
 row-43 = refl
@@ -57,6 +58,23 @@ row-EB : rowIn table 0xEB ≡ some (only 0xEB 26 inEB)
 unfolding table rowIn
 row-EB = refl
 
+-- their lengths, as numbers
+pub length-43 : lengthOf 0x43 ≡ 6
+length-43 = ap oneLength row-43
+
+pub length-46 : lengthOf 0x46 ≡ 10
+length-46 = ap oneLength row-46
+
+pub length-4A : lengthOf 0x4A ≡ 33
+length-4A = ap oneLength row-4A
+
+pub length-4B : lengthOf 0x4B ≡ 42
+length-4B = ap oneLength row-4B
+
+pub length-EB : lengthOf 0xEB ≡ 26
+length-EB = ap oneLength row-EB
+
+-- data of the length are judged by the ranges alone
 pub test-43 : (d : List ℕ) → eqb (length d) 6 && in43 d ≡ eqb (content 0x43 d) 0
 test-43 d = tested 0x43 6 in43 row-43 refl d
 
@@ -72,17 +90,18 @@ test-4A d = tested 0x4A 33 free row-4A refl d
 pub test-4B : (d : List ℕ) → eqb (length d) 42 && true ≡ eqb (content 0x4B d) 0
 test-4B d = tested 0x4B 42 free row-4B refl d
 
-pub length-43 : (d : List ℕ) → content 0x43 d ≡ 0 → length d ≡ 6
-length-43 = long 0x43 6 in43 row-43 refl
+-- what is acceptable has the length
+pub long-43 : (d : List ℕ) → content 0x43 d ≡ 0 → length d ≡ lengthOf 0x43
+long-43 d e = long 0x43 6 in43 row-43 refl d e ∙ sym length-43
 
-pub length-46 : (d : List ℕ) → content 0x46 d ≡ 0 → length d ≡ 10
-length-46 = long 0x46 10 in46 row-46 refl
+pub long-46 : (d : List ℕ) → content 0x46 d ≡ 0 → length d ≡ lengthOf 0x46
+long-46 d e = long 0x46 10 in46 row-46 refl d e ∙ sym length-46
 
-pub length-4A : (d : List ℕ) → content 0x4A d ≡ 0 → length d ≡ 33
-length-4A = long 0x4A 33 free row-4A refl
+pub long-4A : (d : List ℕ) → content 0x4A d ≡ 0 → length d ≡ lengthOf 0x4A
+long-4A d e = long 0x4A 33 free row-4A refl d e ∙ sym length-4A
 
-pub length-4B : (d : List ℕ) → content 0x4B d ≡ 0 → length d ≡ 42
-length-4B = long 0x4B 42 free row-4B refl
+pub long-4B : (d : List ℕ) → content 0x4B d ≡ 0 → length d ≡ lengthOf 0x4B
+long-4B d e = long 0x4B 42 free row-4B refl d e ∙ sym length-4B
 
-pub length-EB : (d : List ℕ) → content 0xEB d ≡ 0 → length d ≡ 26
-length-EB = long 0xEB 26 inEB row-EB refl
+pub long-EB : (d : List ℕ) → content 0xEB d ≡ 0 → length d ≡ lengthOf 0xEB
+long-EB d e = long 0xEB 26 inEB row-EB refl d e ∙ sym length-EB

@@ -54,6 +54,14 @@ unfoldable pub rowIn : List Row → ℕ → Option Row
 rowIn [] id = none
 rowIn (r ∷ rs) id = cond (eqb (r .kind .id) id) (some r) (rowIn rs id)
 
+-- the length of a kind that has one
+abbrev pub oneLength : Option Row → ℕ
+oneLength none = 0
+oneLength (some r) = r .kind .short
+
+abbrev pub lengthOf : ℕ → ℕ
+lengthOf id = oneLength (rowIn table id)
+
 -- the row as the code answers it
 abbrev pub listed : Option Row → Listed
 listed none = Nothing

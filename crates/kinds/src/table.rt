@@ -1,5 +1,10 @@
 // The table of kinds, in the order of document 01.
 use crate::Kind;
+use crate::LENGTH_43;
+use crate::LENGTH_46;
+use crate::LENGTH_4A;
+use crate::LENGTH_4B;
+use crate::LENGTH_EB;
 
 pub const KINDS: [Kind; 20] = [
     Kind {
@@ -100,16 +105,16 @@ pub const KINDS: [Kind; 20] = [
     },
     Kind {
         id: 0x43,
-        short: 6,
-        long: 6,
+        short: LENGTH_43,
+        long: LENGTH_43,
         header: 0,
         width: 0,
         most: 0,
     },
     Kind {
         id: 0x46,
-        short: 10,
-        long: 10,
+        short: LENGTH_46,
+        long: LENGTH_46,
         header: 0,
         width: 0,
         most: 0,
@@ -132,24 +137,24 @@ pub const KINDS: [Kind; 20] = [
     },
     Kind {
         id: 0x4A,
-        short: 33,
-        long: 33,
+        short: LENGTH_4A,
+        long: LENGTH_4A,
         header: 0,
         width: 0,
         most: 0,
     },
     Kind {
         id: 0x4B,
-        short: 42,
-        long: 42,
+        short: LENGTH_4B,
+        long: LENGTH_4B,
         header: 0,
         width: 0,
         most: 0,
     },
     Kind {
         id: 0xEB,
-        short: 26,
-        long: 26,
+        short: LENGTH_EB,
+        long: LENGTH_EB,
         header: 0,
         width: 0,
         most: 0,

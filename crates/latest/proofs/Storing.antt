@@ -11,13 +11,13 @@ use lib.ListN.{length, take, drop-of-length-le}
 use lib.Seq.{length-take-le, take-all, take-length}
 use Rattle.octets.specs.Placing.{placed}
 use Rattle.octets.proofs.PlacingLaws.{placed-start}
-use Rattle.kinds.proofs.OnlyLaws.{length-43, length-46, length-4A, length-4B, length-EB}
+use Rattle.kinds.specs.Kinds.{lengthOf}
+use Rattle.kinds.proofs.OnlyLaws.{long-43, long-46, long-4A, long-4B, long-EB}
 use Rattle.line.specs.Frame.{Acceptable}
 use Rattle.line.specs.Table.Event.{message}
 use Rattle.line.specs.Record.{Kept, idOf, replaced, update}
 use Rattle.line.specs.Record.Kept.{k43, k46, k4A, k4B, kEB}
-use Rattle.latest.specs.Latest.{latestOf}
-use Rattle.latest.specs.Stored.{sizeOf, sizeFor, storedOf}
+use Rattle.latest.specs.Latest.{latestOf, sizeFor, storedOf}
 use Rattle.latest.specs.declared.Latest.{Latest}
 
 -- bytes that fill a buffer are what it then holds
@@ -40,29 +40,29 @@ either : {A : Type 0} (t : Bool) (y : A) → y ≡ cond t y y
 either true y = refl
 either false y = refl
 
-size-kept : (k : Kept) → sizeFor (idOf k) ≡ sizeOf k
+size-kept : (k : Kept) → sizeFor (idOf k) ≡ lengthOf (idOf k)
 size-kept k43 = refl
 size-kept k46 = refl
 size-kept k4A = refl
 size-kept k4B = refl
 size-kept kEB = refl
 
-length-kept : (k : Kept) (d : List ℕ) → Acceptable (idOf k) d → length d ≡ sizeOf k
-length-kept k43 d a = length-43 d a
-length-kept k46 d a = length-46 d a
-length-kept k4A d a = length-4A d a
-length-kept k4B d a = length-4B d a
-length-kept kEB d a = length-EB d a
+length-kept : (k : Kept) (d : List ℕ) → Acceptable (idOf k) d → length d ≡ lengthOf (idOf k)
+length-kept k43 d a = long-43 d a
+length-kept k46 d a = long-46 d a
+length-kept k4A d a = long-4A d a
+length-kept k4B d a = long-4B d a
+length-kept kEB d a = long-EB d a
 
 module _ (id : ℕ) (d : List ℕ) (y : Kept → Option (List ℕ)) where
   -- an identifier that is not the kind's, and data that the kind can't have
   unlike : (k : Kept) → eqb id (idOf k) ≡ false → y k ≡ storedOf id d y k
   unlike k q =
-      either (eqb (length d) (sizeOf k)) (y k)
-      ∙ ap (λ t. cond (eqb (length d) (sizeOf k)) (replaced t d (y k)) (y k)) (sym q)
+      either (eqb (length d) (lengthOf (idOf k))) (y k)
+      ∙ ap (λ t. cond (eqb (length d) (lengthOf (idOf k))) (replaced t d (y k)) (y k)) (sym q)
 
-  unfit : (k : Kept) → (length d ≡ sizeOf k → ⊥) → y k ≡ storedOf id d y k
-  unfit k n = ap (λ t. cond t (update k (message id d 0) (y k)) (y k)) (sym (ne-eqb (length d) (sizeOf k) n))
+  unfit : (k : Kept) → (length d ≡ lengthOf (idOf k) → ⊥) → y k ≡ storedOf id d y k
+  unfit k n = ap (λ t. cond t (update k (message id d 0) (y k)) (y k)) (sym (ne-eqb (length d) (lengthOf (idOf k)) n))
 
   -- nothing is stored
   pub none-stored : (length d ≡ sizeFor id → ⊥) → (k : Kept) → y k ≡ storedOf id d y k
@@ -79,7 +79,7 @@ module _ (id : ℕ) (d : List ℕ) (y : Kept → Option (List ℕ)) where
       by : (t : Bool) → eqb id (idOf k) ≡ t → storedOf id d y k ≡ update k (message id d 0) (y k)
       by true q =
           ap (λ t. cond t (update k (message id d 0) (y k)) (y k))
-          (eq-eqb (length d) (sizeOf k) (length-kept k d (subst (λ j. Acceptable j d) (eqb-true id (idOf k) q) a)))
+          (eq-eqb (length d) (lengthOf (idOf k)) (length-kept k d (subst (λ j. Acceptable j d) (eqb-true id (idOf k) q) a)))
       by false q = sym (unlike k q) ∙ ap (λ t. replaced t d (y k)) (sym q)
 
 module _ (l : Latest) (id : ℕ) (d x : List ℕ) (fits : length d ≡ sizeFor id) where
@@ -88,7 +88,7 @@ module _ (l : Latest) (id : ℕ) (d x : List ℕ) (fits : length d ≡ sizeFor i
   same k e q =
       let n = fits ∙ ap sizeFor e ∙ size-kept k in
       ap some q
-      ∙ (λ i. cond (sym (eq-eqb (length d) (sizeOf k) n) i) (replaced (sym (eq-eqb id (idOf k) e) i) d (latestOf l k)) (latestOf l k))
+      ∙ (λ i. cond (sym (eq-eqb (length d) (lengthOf (idOf k)) n) i) (replaced (sym (eq-eqb id (idOf k) e) i) d (latestOf l k)) (latestOf l k))
 
   pub other : (k : Kept) → (id ≡ idOf k → ⊥) → latestOf l k ≡ storedOf id d (latestOf l) k
   other k n = unlike id d (latestOf l) k (ne-eqb id (idOf k) n)

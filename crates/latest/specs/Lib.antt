@@ -1,2 +1,1 @@
 pub mod Latest
-pub mod Stored

@@ -1,56 +1,38 @@
-// The latest message of each kind that is kept ("standing readings"), and whether they are acceptable.
-// Storing a message that was given as the latest of its kind.
+// The latest message of each kind that is kept (the paper's standing readings): whether they are acceptable, and storing one.
+use kinds::LENGTH_43;
+use kinds::LENGTH_46;
+use kinds::LENGTH_4A;
+use kinds::LENGTH_4B;
+use kinds::LENGTH_EB;
 ghost use mathlib.Core.Path.{_≡_};
 ghost use lib.ListN.{length, take};
 ghost use Rattle.line.specs.Record.{Kept, Fit};
-ghost use Rattle.latest.specs.Latest.{latestOf};
-ghost use Rattle.latest.specs.Stored.{sizeFor, storedOf};
-ghost use lib.Dec.{eqb};
-ghost use Rattle.kinds.specs.Kinds.{content};
 ghost use Rattle.line.specs.Record.Kept.{k43, k46, kEB};
 ghost use Rattle.octets.specs.Deciding.{Decides};
-ghost use Rattle.latest.specs.Latest.{latestOf, LatestOk};
+ghost use Rattle.latest.specs.Latest.{latestOf, LatestOk, sizeFor, storedOf};
 
 // The latest message of each kind that is kept: whether there is one, and its data.
 pub struct Latest {
     pub has43: bool,
-    pub d43: [u8; 6],
+    pub d43: [u8; LENGTH_43],
     pub has46: bool,
-    pub d46: [u8; 10],
+    pub d46: [u8; LENGTH_46],
     pub has4a: bool,
-    pub d4a: [u8; 33],
+    pub d4a: [u8; LENGTH_4A],
     pub has4b: bool,
-    pub d4b: [u8; 42],
+    pub d4b: [u8; LENGTH_4B],
     pub haseb: bool,
-    pub deb: [u8; 26],
+    pub deb: [u8; LENGTH_EB],
 }
 
-// Whether data are acceptable for one kind alone: with no search in the table of kinds, since each call of the reader asks this.
-fn acceptable_43(body: &[u8]) -> bool
-    ensures { λ r. ⌜ r ≡ eqb (content 0x43 (now (body .entry))) 0 ⌝ }
-{
-    (body.len() == 6) & ranges::in_43(body)
-}
-
-fn acceptable_46(body: &[u8]) -> bool
-    ensures { λ r. ⌜ r ≡ eqb (content 0x46 (now (body .entry))) 0 ⌝ }
-{
-    (body.len() == 10) & ranges::in_46(body)
-}
-
-fn acceptable_eb(body: &[u8]) -> bool
-    ensures { λ r. ⌜ r ≡ eqb (content 0xEB (now (body .entry))) 0 ⌝ }
-{
-    (body.len() == 26) & ranges::in_eb(body)
-}
-
-// Whether the latest message of a kind, if any, is acceptable. Any 33 or 42 bytes are an acceptable 4Ah or 4Bh.
+// Whether the latest message of a kind, if any, is acceptable: its length is the array's, so that its ranges decide. Any 33 or 42 bytes
+// are an acceptable 4Ah or 4Bh.
 fn fits_43(l: Latest) -> bool
     ensures { λ r. ⌜ Decides (Fit 0x43 (latestOf l k43)) r ⌝ }
 {
     if l.has43 {
         let d = l.d43;
-        return acceptable_43(&d);
+        return ranges::in_43(&d);
     }
     true
 }
@@ -60,7 +42,7 @@ fn fits_46(l: Latest) -> bool
 {
     if l.has46 {
         let d = l.d46;
-        return acceptable_46(&d);
+        return ranges::in_46(&d);
     }
     true
 }
@@ -70,7 +52,7 @@ fn fits_eb(l: Latest) -> bool
 {
     if l.haseb {
         let d = l.deb;
-        return acceptable_eb(&d);
+        return ranges::in_eb(&d);
     }
     true
 }
@@ -93,11 +75,11 @@ fn size(id: u8) -> usize
     ensures { λ r. ⌜ r ≡ sizeFor id ⌝ }
 {
     match id {
-        0x43 => 6,
-        0x46 => 10,
-        0x4A => 33,
-        0x4B => 42,
-        0xEB => 26,
+        0x43 => LENGTH_43,
+        0x46 => LENGTH_46,
+        0x4A => LENGTH_4A,
+        0x4B => LENGTH_4B,
+        0xEB => LENGTH_EB,
         _ => 0,
     }
 }
@@ -119,36 +101,36 @@ pub fn store(l: Latest, id: u8, d: &[u8], len: usize) -> Latest
     }
     match id {
         0x43 => {
-            let mut x = [0u8; 6];
-            octets::put(&d[..6], &mut x, 0);
+            let mut x = [0u8; LENGTH_43];
+            octets::put(&d[..LENGTH_43], &mut x, 0);
             n.has43 = true;
             n.d43 = x;
             n
         }
         0x46 => {
-            let mut x = [0u8; 10];
-            octets::put(&d[..10], &mut x, 0);
+            let mut x = [0u8; LENGTH_46];
+            octets::put(&d[..LENGTH_46], &mut x, 0);
             n.has46 = true;
             n.d46 = x;
             n
         }
         0x4A => {
-            let mut x = [0u8; 33];
-            octets::put(&d[..33], &mut x, 0);
+            let mut x = [0u8; LENGTH_4A];
+            octets::put(&d[..LENGTH_4A], &mut x, 0);
             n.has4a = true;
             n.d4a = x;
             n
         }
         0x4B => {
-            let mut x = [0u8; 42];
-            octets::put(&d[..42], &mut x, 0);
+            let mut x = [0u8; LENGTH_4B];
+            octets::put(&d[..LENGTH_4B], &mut x, 0);
             n.has4b = true;
             n.d4b = x;
             n
         }
         0xEB => {
-            let mut x = [0u8; 26];
-            octets::put(&d[..26], &mut x, 0);
+            let mut x = [0u8; LENGTH_EB];
+            octets::put(&d[..LENGTH_EB], &mut x, 0);
             n.haseb = true;
             n.deb = x;
             n

@@ -1,24 +1,25 @@
 -- `latest::size` meets its contract: arm by arm.
-use mathlib.Core.Path.{refl, sym, ap}
+use mathlib.Core.Path.{refl, sym, ap, _∙_}
 use borrow.Author.Tests.{ne-eqb}
-use Rattle.latest.specs.Stored.{sizeFor}
+use Rattle.latest.specs.Latest.{sizeFor}
+use Rattle.kinds.proofs.OnlyLaws.{length-43, length-46, length-4A, length-4B, length-EB}
 use Rattle.latest.proofs.size.Statement.{statement}
 use Rattle.latest.proofs.size.Tie as tie
 
 returns : tie.Need-returns
-returns c = sym (ap sizeFor (c .match .keys1))
+returns c = sym (ap sizeFor (c .match .keys1) ∙ length-43)
 
 returns-2 : tie.Need-returns-2
-returns-2 c = sym (ap sizeFor (c .match .keys2))
+returns-2 c = sym (ap sizeFor (c .match .keys2) ∙ length-46)
 
 returns-3 : tie.Need-returns-3
-returns-3 c = sym (ap sizeFor (c .match .keys3))
+returns-3 c = sym (ap sizeFor (c .match .keys3) ∙ length-4A)
 
 returns-4 : tie.Need-returns-4
-returns-4 c = sym (ap sizeFor (c .match .keys4))
+returns-4 c = sym (ap sizeFor (c .match .keys4) ∙ length-4B)
 
 returns-5 : tie.Need-returns-5
-returns-5 c = sym (ap sizeFor (c .match .keys5))
+returns-5 c = sym (ap sizeFor (c .match .keys5) ∙ length-EB)
 
 returns-6 : tie.Need-returns-6
 returns-6 c =

@@ -8,8 +8,8 @@ use denote.Ref.{now}
 use Rattle.octets.specs.Placing.{placed}
 use Rattle.line.specs.Record.{Kept}
 use Rattle.line.specs.Record.Kept.{k43, k46, k4A, k4B, kEB}
-use Rattle.latest.specs.Latest.{latestOf}
-use Rattle.latest.specs.Stored.{sizeFor, storedOf}
+use Rattle.kinds.proofs.OnlyLaws.{length-43, length-46, length-4A, length-4B, length-EB}
+use Rattle.latest.specs.Latest.{latestOf, sizeFor, storedOf}
 use Rattle.latest.specs.declared.Latest.{Latest}
 use Rattle.latest.proofs.Storing.{take-own, filled, none-stored, other, store-43, store-46, store-4A, store-4B, store-EB}
 use Rattle.latest.proofs.store.Statement.{statement}
@@ -50,7 +50,7 @@ returns c =
 slice-aggregate-put : tie.Need-slice-aggregate-put
 slice-aggregate-put c =
     let x = c .before .before .before .before .before .before .args in
-    cut (x .id) 0x43 6 (x .len) (now (x .d)) (c .before .match .keys1) (fits (c .before .before)) refl
+    cut (x .id) 0x43 6 (x .len) (now (x .d)) (c .before .match .keys1) (fits (c .before .before)) length-43
 
 slice-aggregate-put-2 : tie.Need-slice-aggregate-put-2
 slice-aggregate-put-2 c = search needs
@@ -61,7 +61,7 @@ put-requires c κs = search needs
 slice-aggregate-put-3 : tie.Need-slice-aggregate-put-3
 slice-aggregate-put-3 c =
     let x = c .before .before .before .before .before .before .args in
-    cut (x .id) 0x46 10 (x .len) (now (x .d)) (c .before .match .keys2) (fits (c .before .before)) refl
+    cut (x .id) 0x46 10 (x .len) (now (x .d)) (c .before .match .keys2) (fits (c .before .before)) length-46
 
 slice-aggregate-put-4 : tie.Need-slice-aggregate-put-4
 slice-aggregate-put-4 c = search needs
@@ -72,7 +72,7 @@ put-requires-2 c κs = search needs
 slice-aggregate-put-5 : tie.Need-slice-aggregate-put-5
 slice-aggregate-put-5 c =
     let x = c .before .before .before .before .before .before .args in
-    cut (x .id) 0x4A 33 (x .len) (now (x .d)) (c .before .match .keys3) (fits (c .before .before)) refl
+    cut (x .id) 0x4A 33 (x .len) (now (x .d)) (c .before .match .keys3) (fits (c .before .before)) length-4A
 
 slice-aggregate-put-6 : tie.Need-slice-aggregate-put-6
 slice-aggregate-put-6 c = search needs
@@ -83,7 +83,7 @@ put-requires-3 c κs = search needs
 slice-aggregate-put-7 : tie.Need-slice-aggregate-put-7
 slice-aggregate-put-7 c =
     let x = c .before .before .before .before .before .before .args in
-    cut (x .id) 0x4B 42 (x .len) (now (x .d)) (c .before .match .keys4) (fits (c .before .before)) refl
+    cut (x .id) 0x4B 42 (x .len) (now (x .d)) (c .before .match .keys4) (fits (c .before .before)) length-4B
 
 slice-aggregate-put-8 : tie.Need-slice-aggregate-put-8
 slice-aggregate-put-8 c = search needs
@@ -94,7 +94,7 @@ put-requires-4 c κs = search needs
 slice-aggregate-put-9 : tie.Need-slice-aggregate-put-9
 slice-aggregate-put-9 c =
     let x = c .before .before .before .before .before .before .args in
-    cut (x .id) 0xEB 26 (x .len) (now (x .d)) (c .before .match .keys5) (fits (c .before .before)) refl
+    cut (x .id) 0xEB 26 (x .len) (now (x .d)) (c .before .match .keys5) (fits (c .before .before)) length-EB
 
 slice-aggregate-put-10 : tie.Need-slice-aggregate-put-10
 slice-aggregate-put-10 c = search needs
@@ -108,7 +108,7 @@ returns-2 c =
     let x = m .before .before .before .before .before .args in
     let f = fits (m .before) in
     store-43 (x .l) (x .id) (take (x .len) (now (x .d))) _ f (m .match .keys1)
-    (kept (x .id) 0x43 6 (x .len) (now (x .d)) (m .match .keys1) f refl (replicate 6 0) _ refl (c .before .put .ensures .1))
+    (kept (x .id) 0x43 6 (x .len) (now (x .d)) (m .match .keys1) f length-43 (replicate 6 0) _ refl (c .before .put .ensures .1))
 
 returns-3 : tie.Need-returns-3
 returns-3 c =
@@ -116,7 +116,7 @@ returns-3 c =
     let x = m .before .before .before .before .before .args in
     let f = fits (m .before) in
     store-46 (x .l) (x .id) (take (x .len) (now (x .d))) _ f (m .match .keys2)
-    (kept (x .id) 0x46 10 (x .len) (now (x .d)) (m .match .keys2) f refl (replicate 10 0) _ refl (c .before .put2 .ensures .1))
+    (kept (x .id) 0x46 10 (x .len) (now (x .d)) (m .match .keys2) f length-46 (replicate 10 0) _ refl (c .before .put2 .ensures .1))
 
 returns-4 : tie.Need-returns-4
 returns-4 c =
@@ -124,7 +124,7 @@ returns-4 c =
     let x = m .before .before .before .before .before .args in
     let f = fits (m .before) in
     store-4A (x .l) (x .id) (take (x .len) (now (x .d))) _ f (m .match .keys3)
-    (kept (x .id) 0x4A 33 (x .len) (now (x .d)) (m .match .keys3) f refl (replicate 33 0) _ refl (c .before .put3 .ensures .1))
+    (kept (x .id) 0x4A 33 (x .len) (now (x .d)) (m .match .keys3) f length-4A (replicate 33 0) _ refl (c .before .put3 .ensures .1))
 
 returns-5 : tie.Need-returns-5
 returns-5 c =
@@ -132,7 +132,7 @@ returns-5 c =
     let x = m .before .before .before .before .before .args in
     let f = fits (m .before) in
     store-4B (x .l) (x .id) (take (x .len) (now (x .d))) _ f (m .match .keys4)
-    (kept (x .id) 0x4B 42 (x .len) (now (x .d)) (m .match .keys4) f refl (replicate 42 0) _ refl (c .before .put4 .ensures .1))
+    (kept (x .id) 0x4B 42 (x .len) (now (x .d)) (m .match .keys4) f length-4B (replicate 42 0) _ refl (c .before .put4 .ensures .1))
 
 returns-6 : tie.Need-returns-6
 returns-6 c =
@@ -140,7 +140,7 @@ returns-6 c =
     let x = m .before .before .before .before .before .args in
     let f = fits (m .before) in
     store-EB (x .l) (x .id) (take (x .len) (now (x .d))) _ f (m .match .keys5)
-    (kept (x .id) 0xEB 26 (x .len) (now (x .d)) (m .match .keys5) f refl (replicate 26 0) _ refl (c .before .put5 .ensures .1))
+    (kept (x .id) 0xEB 26 (x .len) (now (x .d)) (m .match .keys5) f length-EB (replicate 26 0) _ refl (c .before .put5 .ensures .1))
 
 -- no kept kind
 rest : (l : Latest) (id : ℕ) (d : List ℕ) → length d ≡ sizeFor id → (id ≡ 0x43 → ⊥) → (id ≡ 0x46 → ⊥) → (id ≡ 0x4A → ⊥) → (id ≡ 0x4B → ⊥)
