@@ -18,9 +18,9 @@
 //
 // A call's line has its number and its answers, in this order; where it fills a buffer, that is last, up to four bytes past the room.
 use latest::Latest;
-use record::InPlace;
 use record::Event;
 use record::Head;
+use record::InPlace;
 use record::Reader;
 use refusals::Refusal;
 

@@ -7,12 +7,12 @@
 // and the fields are encoded into so many bytes of a buffer of 5A. Such a line has the refusal of the data and, where there is none,
 // the number of entries and each entry; then the refusal and the length of the encoding, and last the buffer up to four bytes past the
 // room. A line of lookup has the index, none, or the refusal.
-use octets::Written;
 use fields_47::Use;
 use fields_47::Uses;
 use fields_52::Entry;
 use fields_52::Visible;
 use lookup::Found;
+use octets::Written;
 
 fn number(n: u64) {
     io::write_all(1, b" ");

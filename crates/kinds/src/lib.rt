@@ -17,9 +17,13 @@ pub struct Kind {
 
 // The lengths of the kinds whose latest message a reader keeps. They are the table's.
 pub const LENGTH_43: usize = 6;
+
 pub const LENGTH_46: usize = 10;
+
 pub const LENGTH_4A: usize = 33;
+
 pub const LENGTH_4B: usize = 42;
+
 pub const LENGTH_EB: usize = 26;
 
 // The row of an identifier, if it is listed.

@@ -1,9 +1,9 @@
 // The table of kinds, in the order of document 01.
 use crate::Kind;
-use crate::LENGTH_43;
-use crate::LENGTH_46;
 use crate::LENGTH_4A;
 use crate::LENGTH_4B;
+use crate::LENGTH_43;
+use crate::LENGTH_46;
 use crate::LENGTH_EB;
 
 pub const KINDS: [Kind; 20] = [

@@ -1,8 +1,8 @@
 // The latest message of each kind that is kept (the paper's standing readings): whether they are acceptable, and storing one.
-use kinds::LENGTH_43;
-use kinds::LENGTH_46;
 use kinds::LENGTH_4A;
 use kinds::LENGTH_4B;
+use kinds::LENGTH_43;
+use kinds::LENGTH_46;
 use kinds::LENGTH_EB;
 ghost use mathlib.Core.Path.{_≡_};
 ghost use lib.ListN.{length, take};

@@ -1,9 +1,9 @@
 // The events that the reader's slice call raises: a line for each, and how many there are.
 // The listing of a whole slice, by a fresh reader.
 use octets::Written;
-use record::Reader;
-use record::InPlace;
 use record::Event;
+use record::InPlace;
+use record::Reader;
 ghost use mathlib.Core.Bool.{true, cond};
 ghost use mathlib.Core.Path.{_≡_};
 ghost use Prim.Native.Nat.{_≤_};

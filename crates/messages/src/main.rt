@@ -6,7 +6,6 @@
 // of 5A; the families 01 and 20 encode this number and this value as their two fields. A call's line has family, identifier, the
 // refusal of the data and, where there is none, the fields, the wide ones first, signed ones last, FP fields as their bits; then the
 // refusal and the length of the encoding, and last the buffer up to four bytes past the room.
-use octets::Written;
 use fields_20::Satellite;
 use fields_23::Zone;
 use fields_43::Outcome;
@@ -15,6 +14,7 @@ use fields_49::Ephemeris;
 use fields_49::Glonass;
 use fields_49::Gps;
 use fields_one::OneByte;
+use octets::Written;
 
 fn number(n: u64) {
     io::write_all(1, b" ");

@@ -57,7 +57,11 @@ fn balanced(h: Head) -> bool
     if open < h.outside {
         return false;
     }
-    if open - h.outside == h.pending { true } else { false }
+    if open - h.outside == h.pending {
+        true
+    } else {
+        false
+    }
 }
 
 // The pending bytes of an open frame: its place, its data and each DLE among them once more.

@@ -8,12 +8,9 @@ use borrow.Author.Tests.{eqb-true, eqb-false, leb-true, eq-eqb}
 use borrow.Author.Count.{below-more}
 use lib.Bits.{bitOr}
 use lib.Dec.{eqb, leb}
-use Rattle.ranges.specs.Ranges.{byte, between, satellite, count, all, once, in47}
+use Rattle.ranges.specs.Ranges.{byte, between, satellite, placeOf, count, all, once, in47}
 use Rattle.ranges.proofs.BitLaws.{bit, bit-zero, bit-set}
 use Rattle.ranges.proofs.CountLaws.{fails, never, all-at, all-of, count-more, count-same, count-le, each-once}
-
-abbrev pub placeOf : ℕ → ℕ → ℕ
-placeOf s n = 32 * (s - 1) + (n - 1)
 
 -- system 1 with 1 to 32 or system 2 with 1 to 24, in linear form
 pub record Satellite (s n : ℕ) : Type 0 where

@@ -1,7 +1,7 @@
 -- Document 01, "Kinds and fields": the ranges of each kind's fields, in its order. Lengths are the table's (Kinds).
 use mathlib.Core.Bool.{Bool, true, cond, not, _&&_, _||_}
 use mathlib.Core.List.{List}
-use Prim.Native.Nat.{ℕ, zero, suc, _+_, _*_, _/_, _%_}
+use Prim.Native.Nat.{ℕ, zero, suc, _+_, _-_, _*_, _/_, _%_}
 use lib.Dec.{eqb, leb, ltb}
 use lib.IntN.{ℤ, pos, negℤ}
 use lib.ListN.{length, getD, drop}
@@ -41,6 +41,10 @@ in1F d = eqb (length d) 0 || leb (byte d 0) 1
 -- system 1 with number 1–32, or system 2 with 1–24
 abbrev pub satellite : ℕ → ℕ → Bool
 satellite s n = (eqb s 1 && between 1 32 n) || (eqb s 2 && between 1 24 n)
+
+-- the place of a satellite among the 56: bit k − 1 for GPS k, bit 31 + k for GLONASS k
+abbrev pub placeOf : ℕ → ℕ → ℕ
+placeOf s n = 32 * (s - 1) + (n - 1)
 
 abbrev pub in20 : List ℕ → Bool
 in20 d = satellite (byte d 0) (byte d 1)

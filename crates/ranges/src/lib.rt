@@ -1,18 +1,12 @@
-// The ranges of the fields of document 01, as definitions and laws.
-// It has no code of its own: the crates range_* are proved against it.
-// The ranges of the fields of 1Fh and 43h: question 12 of document 01. A field past the end of the data reads as 0.
-// The ranges of the fields of 23h, 46h and EBh: question 12 of document 01. A field past the end of the data reads as 0.
-// The ranges of the fields of 20h and 49h: question 12 of document 01. A field past the end of the data reads as 0.
-// The ranges of the fields of 47h: question 12 of document 01. A field past the end of the data reads as 0.
-// The ranges of the fields of 52h: question 12 of document 01. A field past the end of the data reads as 0.
-ghost use mathlib.Core.Path.{_≡_};
+// The ranges of the fields: question 12 of document 01, in its order. Each test is beside the definition that it decides; a field past
+// the end of the data reads as 0.
 ghost use mathlib.Core.Bool.{cond, true, _&&_};
+ghost use mathlib.Core.Path.{_≡_};
+ghost use Prim.Native.Nat.{_/_, _%_, _^_, _<_};
+ghost use lib.Bits.{bitOr};
 ghost use lib.Dec.{eqb};
 ghost use Rattle.numbers.specs.Signed.{int8};
-ghost use Rattle.ranges.specs.Ranges.{byte, carrier, visible, entry, in52};
-ghost use Prim.Native.Nat.{_+_, _-_, _*_, _/_, _%_, _^_, _<_};
-ghost use lib.Bits.{bitOr};
-ghost use Rattle.ranges.specs.Ranges.{between, satellite, in47, carrier, in20, in49, int8At, zone, in23, in46, inEB, antenna, in1F, in43};
+ghost use Rattle.ranges.specs.Ranges.{between, int8At, in1F, satellite, placeOf, in20, zone, in23, antenna, in43, in46, in47, carrier, in49, inEB, visible, entry, in52};
 
 pub fn in_1f(body: &[u8]) -> bool
     ensures { λ r. ⌜ r ≡ in1F (now (body .entry)) ⌝ }
@@ -20,22 +14,18 @@ pub fn in_1f(body: &[u8]) -> bool
     (body.len() == 0) | (octets::byte_at(body, 0) <= 1)
 }
 
-// The antenna state of a result byte: bits 7 and 6.
-fn antenna(result: u8) -> u8
-    ensures { λ r. ⌜ r ≡ antenna result ⌝ }
+// Whether there is such a satellite: system 1 (GPS) with 1 to 32, system 2 (GLONASS) with 1 to 24.
+pub fn satellite(system: u8, number: u8) -> bool
+    ensures { λ r. ⌜ r ≡ satellite system number ⌝ }
 {
-    (result >> 6) & 3
+    ((system == 1) & ((1 <= number) & (number <= 32)))
+        | ((system == 2) & ((1 <= number) & (number <= 24)))
 }
 
-pub fn in_43(body: &[u8]) -> bool
-    ensures { λ r. ⌜ r ≡ in43 (now (body .entry)) ⌝ }
+pub fn in_20(body: &[u8]) -> bool
+    ensures { λ r. ⌜ r ≡ in20 (now (body .entry)) ⌝ }
 {
-    (octets::byte_at(body, 0) == 2)
-        & (antenna(octets::byte_at(body, 1)) != 2)
-        & ((octets::byte_at(body, 2) == 0)
-            & (octets::byte_at(body, 3) == 0)
-            & (octets::byte_at(body, 4) == 0)
-            & (octets::byte_at(body, 5) == 0))
+    satellite(octets::byte_at(body, 0), octets::byte_at(body, 1))
 }
 
 // The signed number in the byte at a place.
@@ -58,6 +48,24 @@ pub fn in_23(body: &[u8]) -> bool
     (body.len() == 0) | zone(int8_at(body, 0), int8_at(body, 1))
 }
 
+// The antenna state of a result byte: bits 7 and 6.
+fn antenna(result: u8) -> u8
+    ensures { λ r. ⌜ r ≡ antenna result ⌝ }
+{
+    (result >> 6) & 3
+}
+
+pub fn in_43(body: &[u8]) -> bool
+    ensures { λ r. ⌜ r ≡ in43 (now (body .entry)) ⌝ }
+{
+    (octets::byte_at(body, 0) == 2)
+        & (antenna(octets::byte_at(body, 1)) != 2)
+        & ((octets::byte_at(body, 2) == 0)
+            & (octets::byte_at(body, 3) == 0)
+            & (octets::byte_at(body, 4) == 0)
+            & (octets::byte_at(body, 5) == 0))
+}
+
 pub fn in_46(body: &[u8]) -> bool
     ensures { λ r. ⌜ r ≡ in46 (now (body .entry)) ⌝ }
 {
@@ -72,56 +80,21 @@ pub fn in_46(body: &[u8]) -> bool
         & zone(int8_at(body, 8), int8_at(body, 9))
 }
 
-pub fn in_eb(body: &[u8]) -> bool
-    ensures { λ r. ⌜ r ≡ inEB (now (body .entry)) ⌝ }
-{
-    octets::byte_at(body, 16) <= 3
-}
-
-// A satellite of 20h and 47h: systems 1 and 2.
-fn satellite(system: u8, number: u8) -> bool
-    ensures { λ r. ⌜ r ≡ satellite system number ⌝ }
-{
-    ((system == 1) & ((1 <= number) & (number <= 32)))
-        | ((system == 2) & ((1 <= number) & (number <= 24)))
-}
-
-pub fn in_20(body: &[u8]) -> bool
-    ensures { λ r. ⌜ r ≡ in20 (now (body .entry)) ⌝ }
-{
-    satellite(octets::byte_at(body, 0), octets::byte_at(body, 1))
-}
-
-fn carrier(number: i8) -> bool
-    ensures { λ r. ⌜ r ≡ carrier number ⌝ }
-{
-    (-7 <= number) & (number <= 13)
-}
-
-// First byte 1: GPS, number 1 to 32. First byte 2: GLONASS, number 0 to 24 and a carrier.
-pub fn in_49(body: &[u8]) -> bool
-    ensures { λ r. ⌜ r ≡ in49 (now (body .entry)) ⌝ }
-{
-    let system = octets::byte_at(body, 0);
-    let number = octets::byte_at(body, 1);
-    ((system == 1) & ((1 <= number) & (number <= 32)))
-        | ((system == 2) & (number <= 24) & carrier(numbers::int8_of(octets::byte_at(body, 2))))
-}
-
-// A triple of 47h: a satellite as 20h has it, and its use.
+// A triple of 47h: a satellite, and its use.
 fn triple(system: u8, number: u8, used: u8) -> bool
     ensures { λ r. ⌜ r ≡ (satellite system number && between 1 2 used) ⌝ }
 {
-    let pair = [system, number];
-    in_20(&pair) & ((1 <= used) & (used <= 2))
+    satellite(system, number) & ((1 <= used) & (used <= 2))
 }
 
-// The place of a satellite among the 56: 0 to 31 for system 1, 32 to 55 for system 2.
-fn place(system: u8, number: u8) -> u64
-    requires { ⌜ satellite system number ≡ true ⌝ }
-    ensures { λ r. ⌜ r ≡ 32 * (system - 1) + (number - 1) ⌝ }
+// The place of a satellite among the 56: 0 to 31 of system 1, 32 to 55 of system 2. 56 where there is no such satellite.
+pub fn place(system: u8, number: u8) -> u64
+    ensures { λ r. ⌜ r ≡ cond (satellite system number) (placeOf system number) 56 ⌝ }
 {
-    32 * (system as u64 - 1) + (number as u64 - 1)
+    if satellite(system, number) {
+        return 32 * (system as u64 - 1) + (number as u64 - 1);
+    }
+    56
 }
 
 fn is_set(seen: u64, p: u64) -> bool
@@ -162,22 +135,42 @@ pub fn in_47(body: &[u8]) -> bool
     true
 }
 
-// The satellite of an entry of 52h: one of 20h, or of system 4.
-fn visible(e: &[u8]) -> bool
-    ensures { λ r. ⌜ r ≡ visible (byte (now (e .entry)) 0) (byte (now (e .entry)) 1) ⌝ }
+// A carrier number of GLONASS.
+pub fn carrier(number: i8) -> bool
+    ensures { λ r. ⌜ r ≡ carrier number ⌝ }
 {
-    let system = octets::byte_at(e, 0);
-    let number = octets::byte_at(e, 1);
-    in_20(e) | ((system == 4) & ((120 <= number) & (number <= 138)))
+    (-7 <= number) & (number <= 13)
 }
 
-// The carrier byte of 52h: FFh, but for system 2 a carrier as a 49h of system 2 has it.
+// First byte 1: GPS, number 1 to 32. First byte 2: GLONASS, number 0 to 24 and a carrier.
+pub fn in_49(body: &[u8]) -> bool
+    ensures { λ r. ⌜ r ≡ in49 (now (body .entry)) ⌝ }
+{
+    let system = octets::byte_at(body, 0);
+    let number = octets::byte_at(body, 1);
+    ((system == 1) & ((1 <= number) & (number <= 32)))
+        | ((system == 2) & (number <= 24) & carrier(int8_at(body, 2)))
+}
+
+pub fn in_eb(body: &[u8]) -> bool
+    ensures { λ r. ⌜ r ≡ inEB (now (body .entry)) ⌝ }
+{
+    octets::byte_at(body, 16) <= 3
+}
+
+// A satellite of 52h: one of those, or of system 4 (SBAS).
+pub fn visible(system: u8, number: u8) -> bool
+    ensures { λ r. ⌜ r ≡ visible system number ⌝ }
+{
+    satellite(system, number) | ((system == 4) & ((120 <= number) & (number <= 138)))
+}
+
+// The carrier byte of 52h: FFh, but for system 2 a carrier.
 fn carrier_byte(system: u8, b: u8) -> bool
     ensures { λ r. ⌜ r ≡ cond (eqb system 2) (carrier (int8 b)) (eqb b 0xFF) ⌝ }
 {
     if system == 2 {
-        let glonass = [2, 0, b];
-        return in_49(&glonass);
+        return carrier(numbers::int8_of(b));
     }
     b == 0xFF
 }
@@ -189,7 +182,10 @@ fn in_entry(e: &[u8]) -> bool
     let system = octets::byte_at(e, 0);
     let elevation = octets::byte_at(e, 3);
     let azimuth = numbers::u16_at(e, 4);
-    visible(e) & carrier_byte(system, octets::byte_at(e, 2)) & (elevation <= 90) & (azimuth <= 359)
+    visible(system, octets::byte_at(e, 1))
+        & carrier_byte(system, octets::byte_at(e, 2))
+        & (elevation <= 90)
+        & (azimuth <= 359)
 }
 
 pub fn in_52(body: &[u8]) -> bool

@@ -38,23 +38,22 @@ module _ (r : Reader) (t : Moved) where
         answer = record { event = o .event; id = o .id; len = o .len; bytes = r .bytes; closed = o .closed };
         taken = t .at;
       })
-  gives o x f k =
-      (
-            (λ i.
-            record {
-              mode = o .head .mode;
-              place = placeOf (o .head .place) (o .head .id) (dataOf (o .head .len) (r .bytes)) (o .head .c1) (o .head .c2);
-              fed = o .head .fed;
-              accepted = o .head .accepted;
-              refused = o .head .refused;
-              outside = o .head .outside;
-              pending = o .head .pending;
-              latest = λ j. k j i;
-            })
-            ∙ f .after,
-        f .said,
-        refl,
-      )
+  gives o x f k = (
+    (λ i.
+        record {
+          mode = o .head .mode;
+          place = placeOf (o .head .place) (o .head .id) (dataOf (o .head .len) (r .bytes)) (o .head .c1) (o .head .c2);
+          fed = o .head .fed;
+          accepted = o .head .accepted;
+          refused = o .head .refused;
+          outside = o .head .outside;
+          pending = o .head .pending;
+          latest = λ j. k j i;
+        })
+        ∙ f .after,
+    f .said,
+    refl,
+  )
 
 module _ (r : Reader) (s : List ℕ) (v : ℕ) (q : Questions r (length s) v) where
   -- where one of questions 1 to 3 is no

@@ -20,8 +20,7 @@ returns c =
     let w = c .before .before in
     let k = w .before .before in
     let a = k .before .before .before .args in
-    let e = k .content .ensures in
-    (
+    let e = k .content .ensures in (
       w .deliver .ensures .0 ∙ ap (λ (v : ℕ). writtenOf v (a .body .now) (a .buf .now)) e,
       w .deliver .ensures .1 ∙ ap (λ (v : ℕ). filledOf v (a .body .now) (a .buf .now)) e,
     )

@@ -1,14 +1,14 @@
 -- `in_47` meets its contract: the bits are the places of the triples passed, none of them twice.
-use mathlib.Core.Path.{_≡_, sym, _∙_}
-use mathlib.Core.Bool.{true, _&&_, and-eq-true-iff}
+use mathlib.Core.Path.{_≡_, sym, ap, _∙_}
+use mathlib.Core.Bool.{Bool, true, cond, _&&_, and-eq-true-iff}
 use mathlib.Core.List.{List}
 use Prim.Native.Nat.{ℕ, _-_, _≤_, _<_}
 use native.Mathlib.Omega.{arith}
 use borrow.Author.Needs.{needs}
 use borrow.Author.Tests.{not-true, not-false, eqb-true, eqb-false}
-use Rattle.ranges.specs.Ranges.{between, satellite}
+use Rattle.ranges.specs.Ranges.{between, satellite, placeOf}
 use Rattle.ranges.proofs.BitLaws.{bit}
-use Rattle.ranges.proofs.OnceLaws.{Seen, valid, valid-is, placeOf, placeAt, place-lt, seen-none, seen-more, seen-all, seen-bad, seen-twice}
+use Rattle.ranges.proofs.OnceLaws.{Seen, valid, valid-is, placeAt, place-lt, seen-none, seen-more, seen-all, seen-bad, seen-twice}
 use Rattle.ranges.proofs.in_47.Statement.{statement}
 use Rattle.ranges.proofs.in_47.Tie as tie
 
@@ -30,10 +30,17 @@ triple-is c =
     c .triple .ensures
     ∙ (λ k. satellite (b .before .before .byte-at .ensures k) (b .before .byte-at2 .ensures k) && between 1 2 (b .byte-at3 .ensures k))
 
+-- the satellite of a triple that is one
+there : (c : tie.After-place Inv-loop μ-loop)
+    → satellite (c .before .before .before .before .before .byte-at .result) (c .before .before .before .before .byte-at2 .result) ≡ true
+there c = and-eq-true-iff _ _ .0 (sym (c .before .before .triple .ensures) ∙ not-false _ (c .before .if1 .left)) .0
+
 place-is : (c : tie.After-place Inv-loop μ-loop) → c .place .result ≡ placeAt (body (c .before .before)) (turn (c .before .before) .loop .i)
 place-is c =
     let b = c .before .before .before in
-    c .place .ensures ∙ (λ k. placeOf (b .before .before .byte-at .ensures k) (b .before .byte-at2 .ensures k))
+    c .place .ensures
+    ∙ ap (λ (t : Bool). cond t (placeOf (b .before .before .byte-at .result) (b .before .byte-at2 .result)) 56) (there c)
+    ∙ (λ k. placeOf (b .before .before .byte-at .ensures k) (b .before .byte-at2 .ensures k))
 
 valid-at : (c : tie.After-place Inv-loop μ-loop) → valid (body (c .before .before)) (turn (c .before .before) .loop .i) ≡ true
 valid-at c = sym (triple-is (c .before .before)) ∙ not-false _ (c .before .if1 .left)
@@ -71,7 +78,7 @@ returns c =
     sym (seen-bad (body t) (turn t .loop .i) (omega (arith, t .before .before .before .before .loop-test .taken)) (sym (triple-is t) ∙ not-true _ (c .if1 .taken)))
 
 place-requires : tie.Need-place-requires Inv-loop μ-loop
-place-requires c κs = and-eq-true-iff _ _ .0 (sym (c .before .triple .ensures) ∙ not-false _ (c .if1 .left)) .0
+place-requires c κs = tt
 
 is-set-requires : tie.Need-is-set-requires Inv-loop μ-loop
 is-set-requires c κs = omega (arith, below c)

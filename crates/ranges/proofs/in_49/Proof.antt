@@ -1,5 +1,5 @@
 -- `in_49` meets its contract: each field is what its reader ensures.
-use borrow.Author.Needs.{sfits-of, needs}
+use borrow.Author.Needs.{sfits-of}
 use mir.Facts.{toZ-ofZ}
 use Rattle.ranges.proofs.in_49.Statement.{statement}
 use Rattle.ranges.proofs.in_49.Tie as tie
@@ -10,11 +10,8 @@ byte-at-requires c κs = tt
 byte-at-requires-2 : tie.Need-byte-at-requires-2
 byte-at-requires-2 c κs = tt
 
-byte-at-requires-3 : tie.Need-byte-at-requires-3
-byte-at-requires-3 c κs = tt
-
-int8-of-requires : tie.Need-int8-of-requires
-int8-of-requires c κs = tt
+int8-at-requires : tie.Need-int8-at-requires
+int8-at-requires c κs = tt
 
 carrier-requires : tie.Need-carrier-requires
 carrier-requires c κs = tt
@@ -22,18 +19,14 @@ carrier-requires c κs = tt
 returns : tie.Need-returns
 returns c =
     let i = c .before in
-    let k = i .before in
-    let n = k .before in
+    let n = i .before in
     rw (
       n .before .byte-at .ensures,
       n .byte-at2 .ensures,
       c .carrier .ensures,
-      toZ-ofZ (sfits-of (i .int8-of .ok)),
-      i .int8-of .ensures,
-      k .byte-at3 .ensures,
+      toZ-ofZ (sfits-of (i .int8-at .ok)),
+      i .int8-at .ensures,
     )
 
 pub in-49-spec : {M : Type 1} → statement M
-in-49-spec =
-    tie.close
-    (tie.spec byte-at-requires byte-at-requires-2 byte-at-requires-3 int8-of-requires carrier-requires returns)
+in-49-spec = tie.close (tie.spec byte-at-requires byte-at-requires-2 int8-at-requires carrier-requires returns)

@@ -11,11 +11,14 @@ byte-at-requires-2 c κs = tt
 u16-at-requires : tie.Need-u16-at-requires
 u16-at-requires c κs = tt
 
+byte-at-requires-3 : tie.Need-byte-at-requires-3
+byte-at-requires-3 c κs = tt
+
 visible-requires : tie.Need-visible-requires
 visible-requires c κs = tt
 
-byte-at-requires-3 : tie.Need-byte-at-requires-3
-byte-at-requires-3 c κs = tt
+byte-at-requires-4 : tie.Need-byte-at-requires-4
+byte-at-requires-4 c κs = tt
 
 carrier-byte-requires : tie.Need-carrier-byte-requires
 carrier-byte-requires c κs = tt
@@ -23,12 +26,14 @@ carrier-byte-requires c κs = tt
 returns : tie.Need-returns
 returns c =
     let v = c .before .before in
-    let a = v .before in
+    let n = v .before in
+    let a = n .before in
     rw (
       v .visible .ensures,
       c .carrier-byte .ensures,
       a .before .before .byte-at .ensures,
-      c .before .byte-at3 .ensures,
+      n .byte-at3 .ensures,
+      c .before .byte-at4 .ensures,
       a .before .byte-at2 .ensures,
       a .u16-at .ensures,
     )
@@ -40,7 +45,8 @@ in-entry-spec =
     byte-at-requires
     byte-at-requires-2
     u16-at-requires
-    visible-requires
     byte-at-requires-3
+    visible-requires
+    byte-at-requires-4
     carrier-byte-requires
     returns)
