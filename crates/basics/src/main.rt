@@ -22,7 +22,6 @@ use record::Event;
 use record::Head;
 use record::InPlace;
 use record::Reader;
-use refusals::Refusal;
 
 fn number(n: u64) {
     io::write_all(1, b" ");
@@ -290,19 +289,19 @@ fn run_text(from: usize, room: usize, d: &[u8], buf: &mut [u8]) {
 
 fn run_refusals() {
     let all = [
-        Refusal::Mode.number(),
-        Refusal::Record.number(),
-        Refusal::Full.number(),
-        Refusal::TooLong.number(),
-        Refusal::Cut.number(),
-        Refusal::ChecksumMissing.number(),
-        Refusal::ChecksumUnexpected.number(),
-        Refusal::EndMissing.number(),
-        Refusal::ChecksumWrong.number(),
-        Refusal::Unlisted.number(),
-        Refusal::Length.number(),
-        Refusal::Range.number(),
-        Refusal::Buffer.number(),
+        refusals::MODE,
+        refusals::RECORD,
+        refusals::FULL,
+        refusals::TOO_LONG,
+        refusals::CUT,
+        refusals::SUM_MISSING,
+        refusals::SUM_UNEXPECTED,
+        refusals::END_MISSING,
+        refusals::SUM_WRONG,
+        refusals::UNLISTED,
+        refusals::LENGTH,
+        refusals::RANGE,
+        refusals::BUFFER,
     ];
     decimals(&all);
 }

@@ -108,13 +108,13 @@ pub fn content(id: u8, body: &[u8]) -> u8
 {
     let found = find_kind(id);
     let Listed::As(k) = found else {
-        return 10;
+        return refusals::UNLISTED;
     };
     if !length_ok(k, body) {
-        return 11;
+        return refusals::LENGTH;
     }
     if in_range(id, body) {
         return 0;
     }
-    12
+    refusals::RANGE
 }

@@ -61,7 +61,7 @@ pub fn deliver(refusal: u8, text: &[u8], buf: &mut [u8]) -> Written
     }
     if buf.len() < text.len() {
         return Written {
-            refusal: 13,
+            refusal: refusals::BUFFER,
             length: 0,
         };
     }

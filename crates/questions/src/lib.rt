@@ -98,22 +98,22 @@ pub fn question(h: Head, l: Latest, d: &[u8], n: usize) -> u8
     ensures { λ v. ⌜ Questions (recordOf h l (now (d .entry))) n v ⌝ }
 {
     if 2 <= h.mode {
-        return 1;
+        return refusals::MODE;
     }
     if d.len() != Reader::CAPACITY {
-        return 2;
+        return refusals::RECORD;
     }
     if !plausible(h, l) {
-        return 2;
+        return refusals::RECORD;
     }
     if Reader::F <= h.place {
         if h.pending as usize != pending_of(h, d) {
-            return 2;
+            return refusals::RECORD;
         }
     }
     if h.fed >= Reader::LIMIT {
         if 0 < n {
-            return 3;
+            return refusals::FULL;
         }
     }
     0

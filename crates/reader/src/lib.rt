@@ -264,7 +264,7 @@ fn in_f(m: Moving, d: &mut [u8; 1024], s: &[u8], at: usize, n: usize) -> Moved
         if b == Reader::DLE {
             return go(w, Reader::FD, to + 1);
         }
-        return shut(w, Act::Refused(4), b, to + 1);
+        return shut(w, Act::Refused(refusals::TOO_LONG), b, to + 1);
     }
     Moved {
         now: w,
@@ -297,20 +297,20 @@ fn in_fd(mode: u8, m: Moving, d: &mut [u8; 1024], b: u8, at: usize, n: usize) ->
                 };
                 go(w, Reader::F, at)
             } else {
-                shut(m, Act::Refused(4), b, at)
+                shut(m, Act::Refused(refusals::TOO_LONG), b, at)
             }
         }
         Reader::ETX => if mode == 0 {
             shut(m, Act::Ended, b, at)
         } else {
-            shut(m, Act::Refused(6), b, at)
+            shut(m, Act::Refused(refusals::SUM_MISSING), b, at)
         },
         Reader::SUM => if mode == 0 {
-            shut(m, Act::Refused(7), b, at)
+            shut(m, Act::Refused(refusals::SUM_UNEXPECTED), b, at)
         } else {
             go(m, Reader::C0, at)
         },
-        0..=2 | 4..=15 | 17..=254 => shut(m, Act::Reopened(5), b, at),
+        0..=2 | 4..=15 | 17..=254 => shut(m, Act::Reopened(refusals::CUT), b, at),
     }
 }
 
@@ -359,7 +359,7 @@ fn in_e(m: Moving, b: u8, at: usize, n: usize) -> Moved
     if b == Reader::DLE {
         go(m, Reader::ED, at)
     } else {
-        shut(m, Act::Refused(8), b, at)
+        shut(m, Act::Refused(refusals::END_MISSING), b, at)
     }
 }
 
@@ -371,8 +371,8 @@ fn in_ed(m: Moving, b: u8, at: usize, n: usize) -> Moved
 {
     match b {
         Reader::ETX => shut(m, Act::Ended, b, at),
-        Reader::DLE | Reader::SUM => shut(m, Act::Refused(8), b, at),
-        0..=2 | 4..=15 | 17..=254 => shut(m, Act::Reopened(8), b, at),
+        Reader::DLE | Reader::SUM => shut(m, Act::Refused(refusals::END_MISSING), b, at),
+        0..=2 | 4..=15 | 17..=254 => shut(m, Act::Reopened(refusals::END_MISSING), b, at),
     }
 }
 
@@ -482,7 +482,7 @@ fn judge(mode: u8, id: u8, d: &[u8], len: usize, c1: u8, c2: u8) -> u8
             return kinds::content(id, &d[..len]);
         }
     }
-    9
+    refusals::SUM_WRONG
 }
 
 // The head after a call, but for accepted and refused.

@@ -24,7 +24,7 @@ pub struct Head {
 pub struct Reader {
     pub head: Head,
     pub latest: Latest,
-    pub bytes: [u8; 1024],
+    pub bytes: [u8; Reader::CAPACITY],
 }
 
 // Nothing yet, a message, or a refusal by its number.
@@ -39,7 +39,7 @@ pub struct Answer {
     pub event: Event,
     pub id: u8,
     pub len: usize,
-    pub bytes: [u8; 1024],
+    pub bytes: [u8; Reader::CAPACITY],
     pub closed: Count,
 }
 
@@ -125,17 +125,17 @@ impl Reader {
         };
         let latest = Latest {
             has43: false,
-            d43: [0u8; 6],
+            d43: [0u8; kinds::LENGTH_43],
             has46: false,
-            d46: [0u8; 10],
+            d46: [0u8; kinds::LENGTH_46],
             has4a: false,
-            d4a: [0u8; 33],
+            d4a: [0u8; kinds::LENGTH_4A],
             has4b: false,
-            d4b: [0u8; 42],
+            d4b: [0u8; kinds::LENGTH_4B],
             haseb: false,
-            deb: [0u8; 26],
+            deb: [0u8; kinds::LENGTH_EB],
         };
-        let bytes = [0u8; 1024];
+        let bytes = [0u8; Reader::CAPACITY];
         Reader {
             head: head,
             latest: latest,
@@ -155,7 +155,7 @@ impl Reader {
             };
         }
         Fresh {
-            refusal: 1,
+            refusal: refusals::MODE,
             reader: reader,
         }
     }

@@ -85,7 +85,7 @@ pub fn write(mode: u8, id: u8, body: &[u8], buf: &mut [u8]) -> Written
 {
     if 1 < mode {
         return Written {
-            refusal: 1,
+            refusal: refusals::MODE,
             length: 0,
         };
     }
@@ -99,7 +99,7 @@ pub fn write(mode: u8, id: u8, body: &[u8], buf: &mut [u8]) -> Written
     let n = frame_length(mode, body);
     if buf.len() < n {
         return Written {
-            refusal: 13,
+            refusal: refusals::BUFFER,
             length: 0,
         };
     }
