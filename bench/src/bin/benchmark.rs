@@ -4,6 +4,10 @@
 //! feeding it to a fresh reader, slice after slice, up to each event.
 //!
 //! Usage: benchmark [bytes per input] [repetitions]
+//!        benchmark once SIDE ROW MODE REPETITIONS
+//!
+//! The second form runs one side on one row (from 0), so many times and without a clock: for a
+//! program that counts instructions.
 
 use std::hint::black_box;
 use std::process::exit;
@@ -17,27 +21,23 @@ const SEED: u64 = 0x0B1A_5EED_0B1A_5EED;
 type Fill = fn(&mut Random, u8, &mut Vec<u8>);
 
 fn main() {
-    let mut arguments = std::env::args().skip(1);
+    let mut arguments = std::env::args().skip(1).peekable();
+    if arguments.peek().is_some_and(|word| word == "once") {
+        let words: Vec<String> = arguments.skip(1).collect();
+        once(&words);
+        return;
+    }
     let bytes = number(arguments.next(), 1_000_000);
     let repetitions = number(arguments.next(), 201);
 
-    let inputs: [(&str, Fill); 3] = [
-        ("frames of about 35 bytes", short_frame),
-        ("frames of about 500 bytes", long_frame),
-        ("pure noise", |random, _, out| random.noise(1, out)),
-    ];
     println!("best of {repetitions} interleaved repetitions, ns per byte");
     println!(
         "{:<26} {:>4} {:>8} {:>9} {:>8} {:>6}",
         "input", "mode", "events", "reference", "library", "ratio"
     );
-    for (name, fill) in inputs {
+    for (name, fill) in ROWS {
         for mode in [0, 1] {
-            let mut random = Random::new(SEED);
-            let mut input = Vec::with_capacity(bytes + 1200);
-            while input.len() < bytes {
-                fill(&mut random, mode, &mut input);
-            }
+            let input = filled(fill, mode, bytes);
             let events = reference::count(mode, &input);
             let counted = library::count(mode, &input);
             if counted != events {
@@ -53,16 +53,53 @@ fn main() {
     }
 }
 
+const ROWS: [(&str, Fill); 5] = [
+    ("shortest frames", shortest_frame),
+    ("frames of about 35 bytes", short_frame),
+    ("frames of about 500 bytes", long_frame),
+    ("a clock's mix", mix),
+    ("pure noise", |random, _, out| random.noise(1, out)),
+];
+
+fn filled(fill: Fill, mode: u8, bytes: usize) -> Vec<u8> {
+    let mut random = Random::new(SEED);
+    let mut input = Vec::with_capacity(bytes + 1200);
+    while input.len() < bytes {
+        fill(&mut random, mode, &mut input);
+    }
+    input
+}
+
+/// One side on one row, and the bytes of its input on standard output.
+fn once(words: &[String]) {
+    let word = |i: usize| words.get(i).cloned();
+    let count = match word(0).as_deref() {
+        Some("reference") => reference::count,
+        Some("library") => library::count,
+        _ => usage(),
+    };
+    let row: usize = word(1).and_then(|w| w.parse().ok()).unwrap_or_else(|| usage());
+    let mode: u8 = word(2).and_then(|w| w.parse().ok()).unwrap_or_else(|| usage());
+    let Some((_, fill)) = ROWS.get(row) else { usage() };
+    let input = filled(*fill, mode, 200_000);
+    for _ in 0..number(word(3), 1) {
+        black_box(count(black_box(mode), black_box(&input)));
+    }
+    println!("{}", input.len());
+}
+
+fn usage() -> ! {
+    eprintln!("usage: benchmark [bytes per input] [repetitions] | once reference|library ROW MODE REPETITIONS");
+    exit(2);
+}
+
 fn number(argument: Option<String>, default: usize) -> usize {
     let Some(text) = argument else {
         return default;
     };
     match text.replace(['_', ','], "").parse() {
         Ok(number) if number > 0 => number,
-        _ => {
-            eprintln!("usage: benchmark [bytes per input] [repetitions]");
-            exit(2);
-        }
+        _ => usage(),
     }
 }
 
@@ -84,6 +121,35 @@ fn time(count: fn(u8, &[u8]) -> u64, mode: u8, input: &[u8]) -> f64 {
     let start = Instant::now();
     black_box(black_box(count)(black_box(mode), black_box(input)));
     start.elapsed().as_nanos() as f64 / input.len() as f64
+}
+
+/// A message without data: 4 bytes, 8 in mode 1.
+fn shortest_frame(_: &mut Random, mode: u8, out: &mut Vec<u8>) {
+    out.extend(frame(mode, 0x26, &[]));
+}
+
+/// What a clock's receiver sends in a second: time, satellites in view and GLONASS time; and, once
+/// in two minutes, ionosphere, time scales and the receiver's test.
+fn mix(random: &mut Random, mode: u8, out: &mut Vec<u8>) {
+    let second = random.below(604_800) as u32;
+    let mut time = second.to_le_bytes().to_vec();
+    time.extend([16, 11, 0xEA, 0x07, 3, 0]);
+    out.extend(frame(mode, 0x46, &time));
+    let entries = random.between(14, 20);
+    let body = in_view(random, entries);
+    out.extend(frame(mode, 0x52, &body));
+    let mut glonass = Vec::new();
+    random.noise(26, &mut glonass);
+    glonass[16] &= 3;
+    out.extend(frame(mode, 0xEB, &glonass));
+    if random.below(120) == 0 {
+        for (id, length) in [(0x4A, 33), (0x4B, 42)] {
+            let mut body = Vec::new();
+            random.noise(length, &mut body);
+            out.extend(frame(mode, id, &body));
+        }
+        out.extend(frame(mode, 0x43, &[2, 0x30, 0, 0, 0, 0]));
+    }
 }
 
 /// 30 to 39 bytes and now and then a doubled one; 4 more in mode 1.
