@@ -4,11 +4,12 @@
 // who reads the number as signed sees as that number with a minus.
 use octets::Written;
 ghost use mathlib.Core.Path.{_≡_};
+ghost use Rattle.octets.specs.Delivery.{writtenOf, filledOf};
 ghost use Rattle.kinds.specs.Kinds.{content};
 ghost use Rattle.line.specs.Record.{fresh};
 ghost use Rattle.lister.specs.Counting.{countOf};
 ghost use Rattle.writer.specs.Writing as Writing;
-ghost use Rattle.lister.specs.WholePosts as Listing;
+ghost use Rattle.lister.specs.Listing.{freshRefusal, listingOf};
 ghost use Rattle.export.specs.Answers.{answerOf};
 
 // A length, or a refusal, as one number.
@@ -24,8 +25,8 @@ fn answer(w: Written) -> u64
 // The listing of the bytes in a mode, as listoff and liston print it: a line for each event, then the total.
 #[no_mangle]
 pub extern "C" fn binr_list(mode: u8, bytes: &[u8], out: &mut [u8]) -> u64
-    ensures { λ r. ⌜ (r ≡ answerOf (Listing.listedOf (fresh mode) (now (bytes .entry)) (now (out .entry))))
-        × (now (out .exit) ≡ Listing.filledOf (fresh mode) (now (bytes .entry)) (now (out .entry))) ⌝ }
+    ensures { λ r. ⌜ (r ≡ answerOf (writtenOf (freshRefusal (fresh mode)) (listingOf (fresh mode) (now (bytes .entry))) (now (out .entry))))
+        × (now (out .exit) ≡ filledOf (freshRefusal (fresh mode)) (listingOf (fresh mode) (now (bytes .entry))) (now (out .entry))) ⌝ }
 {
     let w = lister::list(mode, bytes, out);
     answer(w)

@@ -11,51 +11,31 @@ use lib.ListN.{length, drop, length-drop}
 use lib.Seq.{drop-drop}
 use Rattle.line.specs.Table.{Event}
 use Rattle.line.specs.Table.Event.{nothing, message, refusal}
-use Rattle.line.specs.Record.{Rec, Possible, Result, limit, eventOf, stepped, orStop, walk}
-use Rattle.line.specs.Record as Record
+use Rattle.line.specs.Record.{Rec, Possible, limit, eventOf, stepped, walk}
 use Rattle.record.specs.declared.Reader.{Reader}
 use Rattle.record.specs.declared.Fed.{Fed}
 use Rattle.record.specs.View.{Parts, view, partsOf, shown}
 use Rattle.record.specs.Posts.{FeedPost}
-use Rattle.lister.specs.Counting.{one, raised, countShown}
+use Rattle.lister.specs.Counting.{occurs, raised, occursShown}
 use Rattle.lister.specs.Posts.{CountPost}
-use Rattle.lister.proofs.PieceLaws.{walk-mode, walk-possible}
+use Rattle.lister.proofs.PieceLaws.{walk-by, walk-mode, walk-possible}
 use Rattle.reader.proofs.Taking.{passed}
 use Rattle.lister.proofs.FeedLaws.{taken-fits}
 
-module _ (r : Rec) (b : ℕ) (bs : List ℕ) where
-  abbrev rest : Result
-  rest = walk (stepped r b) bs
-
-  -- one turn of a walk, by whether b can be counted and by its event
-  abbrev turned : Bool → Event → Result
-  turned t e =
-      cond t (orStop e (Record.oneMore rest) (record { after = stepped r b; answer = e; taken = 1 }))
-      (record { after = r; answer = nothing; taken = 0 })
-
-  by-call : (t : Bool) (e : Event) → raised (stepped r b) bs ≡ one (rest .answer) + raised (rest .after) (drop (rest .taken) bs)
-      → raised r (b ∷ bs) ≡ cond t (one e + raised (stepped r b) bs) 0
-      → raised r (b ∷ bs) ≡ one (turned t e .answer) + raised (turned t e .after) (drop (turned t e .taken) (b ∷ bs))
-  by-call false e h q = sym (zero-add (raised r (b ∷ bs)))
-  by-call true nothing h q = q ∙ zero-add (raised (stepped r b) bs) ∙ h
-  by-call true (message i d n) h q = q
-  by-call true (refusal v i n) h q = q
-
-  by-stop : (t : Bool) (e : Event) → turned t e .taken ≡ 0 → cond t (one e + raised (stepped r b) bs) 0 ≡ 0
-  by-stop false e h = refl
-  by-stop true nothing h = absurd (omega arith)
-  by-stop true (message i d n) h = absurd (omega arith)
-  by-stop true (refusal v i n) h = absurd (omega arith)
-
-raised-walk : (l : List ℕ) (r : Rec) → raised r l ≡ one (walk r l .answer) + raised (walk r l .after) (drop (walk r l .taken) l)
-raised-walk [] r = refl
-raised-walk (b ∷ bs) r = by-call r b bs (ltb (r .fed) limit) (eventOf r b) (raised-walk bs (stepped r b)) refl
+raised-walk : (l : List ℕ) (r : Rec) → raised r l ≡ occurs (walk r l .answer) + raised (walk r l .after) (drop (walk r l .taken) l)
+raised-walk =
+    walk-by (λ r l x. raised r l ≡ occurs (x .answer) + raised (x .after) (drop (x .taken) l)) (λ r. refl)
+    (λ r b bs k. sym (zero-add (raised r (b ∷ bs))))
+    (λ r b bs x k q h. (λ i. cond (k i) (occurs (q i) + raised (stepped r b) bs) 0) ∙ zero-add (raised (stepped r b) bs) ∙ h)
+    (λ r b bs e k q. λ i. cond (k i) (occurs (q i) + raised (stepped r b) bs) 0)
 
 raised-none : (l : List ℕ) (r : Rec) → walk r l .taken ≡ 0 → raised r l ≡ 0
-raised-none [] r h = refl
-raised-none (b ∷ bs) r h = by-stop r b bs (ltb (r .fed) limit) (eventOf r b) h
+raised-none =
+    walk-by (λ r l x. x .taken ≡ 0 → raised r l ≡ 0) (λ r h. refl)
+    (λ r b bs k h. λ i. cond (k i) (occurs (eventOf r b) + raised (stepped r b) bs) 0) (λ r b bs x k q i h. absurd (omega arith))
+    (λ r b bs e k q h. absurd (omega arith))
 
-count-shown : (e : Event) → countShown (shown e .event) ≡ one e
+count-shown : (e : Event) → occursShown (shown e .event) ≡ occurs e
 count-shown nothing = refl
 count-shown (message id d n) = refl
 count-shown (refusal v id n) = refl
@@ -81,7 +61,7 @@ count-last r s x q h =
 
 -- a call that takes something, and then what is right from where it stopped
 pub count-more : (r : Reader) (s : List ℕ) (x : Fed) → FeedPost r s x → 0 < x .taken → (n : ℕ) → CountPost (x .reader) (drop (x .taken) s) n
-    → CountPost r s (countShown (x .answer .event) + n)
+    → CountPost r s (occursShown (x .answer .event) + n)
 count-more r s x q h n o =
     record {
       one = λ m. absurd (omega (arith, q .asked .one m .2));
@@ -90,7 +70,7 @@ count-more r s x q h n o =
       rest = λ m p z.
           let u : n ≡ raised (view (x .reader)) (drop (x .taken) s) = o .rest (rw mode-kept m) (kept p) (λ y. absurd y) in
           (λ i. event i + u i)
-          ∙ (λ i. one (walk (view r) s .answer) + raised (w .0 i) (drop (w .2 i) s))
+          ∙ (λ i. occurs (walk (view r) s .answer) + raised (w .0 i) (drop (w .2 i) s))
           ∙ sym (raised-walk s (view r));
     }
   where
@@ -105,8 +85,8 @@ count-more r s x q h n o =
     kept : Possible (view r) → Possible (view (x .reader))
     kept p = subst⁻¹ Possible (w .0) (walk-possible s (view r) p)
 
-    event : countShown (x .answer .event) ≡ one (walk (view r) s .answer)
-    event = ap (λ (y : Parts). countShown (y .event)) (w .1) ∙ count-shown (walk (view r) s .answer)
+    event : occursShown (x .answer .event) ≡ occurs (walk (view r) s .answer)
+    event = ap (λ (y : Parts). occursShown (y .event)) (w .1) ∙ count-shown (walk (view r) s .answer)
 
 -- at bytes of s were taken by the reader r₀, which is r now, and n events counted
 pub record Counted (r₀ : Reader) (s : List ℕ) (r : Reader) (at n : ℕ) : Type 0 where
@@ -123,7 +103,7 @@ module _ {r₀ : Reader} {s : List ℕ} {r : Reader} {at n : ℕ} (w : Counted r
   counted-within = omega (arith, taken-fits r (drop at s) x q, length-drop at s, w .within)
 
   -- something was taken, and its event counted
-  pub counted-more : (j : ℕ) → 0 < x .taken → length (x .reader .bytes) ≡ 1024 → j ≡ countShown (x .answer .event) → j ≤ 1
+  pub counted-more : (j : ℕ) → 0 < x .taken → length (x .reader .bytes) ≡ 1024 → j ≡ occursShown (x .answer .event) → j ≤ 1
       → Counted r₀ s (x .reader) (at + x .taken) (n + j)
   counted-more j h k ej hj =
       record {
@@ -133,9 +113,9 @@ module _ {r₀ : Reader} {s : List ℕ} {r : Reader} {at n : ℕ} (w : Counted r
         right = λ m o.
             let o′ : CountPost (x .reader) (drop (x .taken) (drop at s)) m =
             subst (λ (d : List ℕ). CountPost (x .reader) d m) (sym (drop-drop (x .taken) at s)) o in
-            let u : CountPost r₀ s (n + (countShown (x .answer .event) + m)) =
-            w .right (countShown (x .answer .event) + m) (count-more r (drop at s) x q h m o′) in
-            let z : n + (countShown (x .answer .event) + m) ≡ n + j + m = omega arith in
+            let u : CountPost r₀ s (n + (occursShown (x .answer .event) + m)) =
+            w .right (occursShown (x .answer .event) + m) (count-more r (drop at s) x q h m o′) in
+            let z : n + (occursShown (x .answer .event) + m) ≡ n + j + m = omega arith in
             subst (λ (y : ℕ). CountPost r₀ s y) z u;
       }
 

@@ -16,8 +16,9 @@ use Rattle.record.specs.declared.Fed.{Fed}
 use Rattle.record.specs.View.{Parts, view, partsOf, shown}
 use Rattle.record.specs.Posts.{FeedPost}
 use Rattle.reader.proofs.Taking.{passed}
-use Rattle.lister.specs.Listing.{lineOf, longest, Piece, piece}
-use Rattle.lister.specs.Posts.{numberOf, lineShown}
+use Rattle.listing.specs.Text.{longestEvent}
+use Rattle.lister.specs.Listing.{lineOf, Piece, piece}
+use Rattle.lister.specs.Posts.{eventNumber, lineShown}
 use Rattle.lister.proofs.PieceLaws.{walk-mode, walk-possible, walk-fed, walk-some, ahead, rest, piece-full, piece-limit, piece-walk}
 
 -- the line of an answer, as the code writes it
@@ -31,7 +32,7 @@ line-shown o (refusal v id n) = refl
 
 -- the bytes that are offered
 abbrev pub offered : ℕ → List ℕ → List ℕ
-offered room s = cond (ltb room longest) [] s
+offered room s = cond (ltb room longestEvent) [] s
 
 -- a part of a listing that leaves the reader g: the refusal v, n bytes, the lines t
 abbrev pub Out : Reader → List ℕ → ℕ → Reader → ℕ → ℕ → List ℕ → Type 0
@@ -58,45 +59,45 @@ taken-fits r l x q = by (eqb (x .taken) 0) refl
 
 -- a call that takes nothing and leaves what p says
 abbrev Ends : Fed → Piece → Type 0
-Ends x p = (view (x .reader) ≡ p .after) × (numberOf (x .answer .event) ≡ p .refusal) × (0 ≡ p .taken) × ([] ≡ p .lines)
+Ends x p = (view (x .reader) ≡ p .after) × (eventNumber (x .answer .event) ≡ p .refusal) × (0 ≡ p .taken) × ([] ≡ p .lines)
 
 -- the last call takes nothing: all is listed, there is no room, or it is refused
 pub last : (r : Reader) (s : List ℕ) (room : ℕ) (x : Fed) → FeedPost r (offered room s) x → x .taken ≡ 0
-    → Out r s room (x .reader) (numberOf (x .answer .event)) 0 []
+    → Out r s room (x .reader) (eventNumber (x .answer .event)) 0 []
 last r s room x q z =
     record {
-      one = λ m. let w = q .asked .one m in (w .0, ap (λ (p : Parts). numberOf (p .event)) (w .1), refl, refl);
-      two = λ m n. let w = q .asked .two m n in (w .0, ap (λ (p : Parts). numberOf (p .event)) (w .1), refl, refl);
+      one = λ m. let w = q .asked .one m in (w .0, ap (λ (p : Parts). eventNumber (p .event)) (w .1), refl, refl);
+      two = λ m n. let w = q .asked .two m n in (w .0, ap (λ (p : Parts). eventNumber (p .event)) (w .1), refl, refl);
       three = λ m p o f. absurd o;
-      rest = λ m p o. by (ltb room longest) refl s q m p;
+      rest = λ m p o. by (ltb room longestEvent) refl s q m p;
     }
   where
     -- nothing is offered
     none : FeedPost r [] x → r .head .mode ≤ 1 → Possible (view r) → Ends x (record { after = view r; refusal = 0; taken = 0; lines = [] })
     none q m p =
         let w = q .asked .rest m p (λ o. absurd (omega arith)) in
-        (w .0, ap (λ (p : Parts). numberOf (p .event)) (w .1), refl, refl)
+        (w .0, ap (λ (p : Parts). eventNumber (p .event)) (w .1), refl, refl)
 
-    full : (b : ℕ) (bs : List ℕ) (t : Bool) → ltb (r .head .fed) limit ≡ t → ltb room longest ≡ false → FeedPost r (b ∷ bs) x
+    full : (b : ℕ) (bs : List ℕ) (t : Bool) → ltb (r .head .fed) limit ≡ t → ltb room longestEvent ≡ false → FeedPost r (b ∷ bs) x
         → r .head .mode ≤ 1 → Possible (view r) → Ends x (piece room (view r) (b ∷ bs))
     full b bs true e k q m p =
         let w = q .asked .rest m p (λ o. ltb-true (r .head .fed) limit e) in
         absurd (omega (arith, w .2, walk-some b bs (view r) e))
     full b bs false e k q m p =
         let w = q .asked .three m p (omega arith) (ltb-false (r .head .fed) limit e) in
-        subst⁻¹ (Ends x) (piece-limit room (view r) b bs k e) (ap view (w .0), ap (λ (p : Parts). numberOf (p .event)) (w .1), refl, refl)
+        subst⁻¹ (Ends x) (piece-limit room (view r) b bs k e) (ap view (w .0), ap (λ (p : Parts). eventNumber (p .event)) (w .1), refl, refl)
 
-    by : (t : Bool) → ltb room longest ≡ t → (s : List ℕ) → FeedPost r (cond t [] s) x → r .head .mode ≤ 1 → Possible (view r)
+    by : (t : Bool) → ltb room longestEvent ≡ t → (s : List ℕ) → FeedPost r (cond t [] s) x → r .head .mode ≤ 1 → Possible (view r)
         → Ends x (piece room (view r) s)
     by true k s q m p = subst⁻¹ (Ends x) (piece-full room (view r) s k) (none q m p)
     by false k [] q m p = none q m p
     by false k (b ∷ bs) q m p = full b bs (ltb (r .head .fed) limit) refl k q m p
 
 -- where something was taken there was room
-pub room-left : (r : Reader) (s : List ℕ) (room : ℕ) (x : Fed) → FeedPost r (offered room s) x → 0 < x .taken → ltb room longest ≡ false
-room-left r s room x q h = by (ltb room longest) refl q
+pub room-left : (r : Reader) (s : List ℕ) (room : ℕ) (x : Fed) → FeedPost r (offered room s) x → 0 < x .taken → ltb room longestEvent ≡ false
+room-left r s room x q h = by (ltb room longestEvent) refl q
   where
-    by : (t : Bool) → ltb room longest ≡ t → FeedPost r (cond t [] s) x → ltb room longest ≡ false
+    by : (t : Bool) → ltb room longestEvent ≡ t → FeedPost r (cond t [] s) x → ltb room longestEvent ≡ false
     by true k q = absurd (omega (arith, taken-within r [] x q h))
     by false k q = k
 
@@ -117,7 +118,7 @@ more r s room x q h g v n t o =
           );
     }
   where
-    k : ltb room longest ≡ false
+    k : ltb room longestEvent ≡ false
     k = room-left r s room x q h
 
     f : FeedPost r s x

@@ -1,6 +1,6 @@
 -- What a part of a listing leaves of the whole, for a reader that questions 1 and 2 let pass and a buffer that holds a line.
 use mathlib.Core.List.{List, _++_}
-use mathlib.Core.Path.{_≡_, sym, ap, _∙_, subst, subst⁻¹}
+use mathlib.Core.Path.{_≡_, refl, sym, ap, _∙_, subst, subst⁻¹}
 use Prim.Native.Nat.{ℕ, _+_, _-_, _≤_}
 use native.Mathlib.Omega.{arith}
 use borrow.Author.Tests.{le-ltb}
@@ -9,14 +9,15 @@ use lib.Seq.{take-all, drop-drop}
 use Rattle.octets.specs.Placing.{placed}
 use Rattle.octets.proofs.PlacingLaws.{length-placed}
 use Rattle.octets.specs.declared.Written.{Written}
+use Rattle.octets.specs.Delivery.{writtenOf, filledOf, Counts}
+use Rattle.octets.proofs.DeliveryLaws.{writes}
 use Rattle.line.specs.Record.{Rec, Possible}
 use Rattle.record.specs.declared.Reader.{Reader}
 use Rattle.record.specs.View.{view}
-use Rattle.listing.specs.Text.{writtenOf}
+use Rattle.listing.specs.Text.{totalOf, longestEvent}
 use Rattle.listing.proofs.LineLaws.{read-back}
-use Rattle.listing.specs.Totals.{Counts, totalOf}
 use Rattle.lister.specs.declared.Part.{Part}
-use Rattle.lister.specs.Listing.{text, longest, Piece, piece}
+use Rattle.lister.specs.Listing.{text, Piece, piece}
 use Rattle.lister.specs.Posts.{PartPost, Good}
 use Rattle.lister.proofs.PieceLaws.{text-piece, piece-mode, piece-possible, piece-end}
 
@@ -60,7 +61,7 @@ pub record Listed (g : Reader) (s : List ℕ) (at : ℕ) (x : Part) (b : List �
   -- where it took nothing there is only the total left
   pub end : x .taken ≡ 0 → text (view (x .reader)) (drop (at + x .taken) s) ≡ totalOf (view (x .reader))
 
-pub called : (g : Reader) (s : List ℕ) (at : ℕ) (b : List ℕ) (x : Part) (b′ : List ℕ) → Good g → longest ≤ length b → at ≤ length s
+pub called : (g : Reader) (s : List ℕ) (at : ℕ) (b : List ℕ) (x : Part) (b′ : List ℕ) → Good g → longestEvent ≤ length b → at ≤ length s
     → PartPost g (take (length s - at) (drop at s)) b x b′ → x .taken ≤ length (take (length s - at) (drop at s)) → Counts (x .length) b′
     → Listed g s at x b′
 called g s at b x b′ h k w q f c =
@@ -73,10 +74,10 @@ called g s at b x b′ h k w q f c =
           ∙ sym (λ i. part-lines g d b x b′ q′ c h i ++ text (is .0 i) (drop (is .2 i) d))
           ∙ ap (λ (z : List ℕ). take (x .length) b′ ++ text (view (x .reader)) z) (drop-drop (x .taken) at s);
       end = λ z.
-          let e = piece-end d (length b) (view g) (le-ltb (length b) longest k) (sym (is .2) ∙ z) in
+          let e = piece-end d (length b) (view g) (le-ltb (length b) longestEvent k) (sym (is .2) ∙ z) in
           let same : view (x .reader) ≡ view g = is .0 ∙ e .0 in
           let here : at + x .taken ≡ at = omega arith in
-          (λ i. text (same i) (drop (here i) s)) ∙ e .2 ∙ sym (ap totalOf same);
+          (λ i. text (same i) (drop (here i) s)) ∙ e .1 ∙ sym (ap totalOf same);
     }
   where
     d : List ℕ
@@ -93,8 +94,9 @@ called g s at b x b′ h k w q f c =
     is = part-is g d b x b′ q′ c h
 
 -- a total that fits is written whole
-pub total-whole : (w : Written) (t b b′ : List ℕ) → w ≡ writtenOf t b → b′ ≡ placed b 0 t → length t ≤ length b
+pub total-whole : (w : Written) (t b b′ : List ℕ) → w ≡ writtenOf 0 t b → b′ ≡ filledOf 0 t b → length t ≤ length b
     → (w .length ≡ length t) × (take (w .length) b′ ≡ t)
 total-whole w t b b′ e f h =
-    let n : w .length ≡ length t = ap (λ (v : Written). v .length) e ∙ rw (le-ltb (length b) (length t) h) in
-    (n, read-back b b′ t (w .length) n f h)
+    let p = writes 0 t b refl h in
+    let n : w .length ≡ length t = ap (λ (v : Written). v .length) (e ∙ p .0) in
+    (n, read-back b b′ t (w .length) n (f ∙ p .1) h)

@@ -1,52 +1,25 @@
 -- The turns of `list_parts`: what is listed of a slice, and where it is written what the buffer holds.
-use mathlib.Core.Bool.{Bool, true, false, cond}
+use mathlib.Core.Bool.{Bool, true, false}
 use mathlib.Core.List.{List}
 use mathlib.Core.Path.{_≡_, refl, sym, ap, _∙_, subst}
 use Prim.Native.Nat.{ℕ, _+_, _-_, _≤_, _<_}
 use native.Mathlib.Omega.{arith}
-use borrow.Author.Tests.{lt-ltb, le-ltb, ltb-true, ltb-false}
-use lib.Dec.{ltb}
 use lib.ListN.{length, take, drop, length-append}
 use Rattle.octets.specs.Placing.{placed}
 use Rattle.octets.proofs.PlacingLaws.{length-placed, placed-more}
-use Rattle.octets.specs.declared.Written.{Written}
-use Rattle.octets.specs.Delivery.{refused, accepted}
 use Rattle.record.specs.declared.Reader.{Reader}
 use Rattle.record.specs.View.{view}
 use Rattle.lister.specs.declared.Part.{Part}
 use Rattle.lister.specs.Listing.{text}
-use Rattle.lister.specs.Posts.{Good}
+use Rattle.lister.specs.Posts.{Good, placedIf}
 use Rattle.lister.proofs.PartLaws.{Listed}
-use Rattle.lister.specs.WholePosts.{measured, writtenIf}
 
--- what was measured, where there is no room and where there is
-pub too-long : (t : List ℕ) (room : ℕ) → room < length t → _≡_ {A = Written} (record { refusal = 13; length = 0 }) (measured t room)
-too-long t room h = rw (lt-ltb room (length t) h)
-
-pub fits-whole : (t : List ℕ) (room n : ℕ) → length t ≤ room → n ≡ length t → _≡_ {A = Written} (record { refusal = 0; length = n }) (measured t room)
-fits-whole t room n h e = rw (le-ltb room (length t) h, e)
-
--- and what a caller learns from the answer
-pub measured-over : (w : Written) (t : List ℕ) (room : ℕ) → w ≡ measured t room → (w .refusal ≡ 0 → ⊥) → room < length t
-measured-over w t room e n = by (ltb room (length t)) refl e
-  where
-    by : (c : Bool) → ltb room (length t) ≡ c → w ≡ cond c (refused 13) (accepted (length t)) → room < length t
-    by true k q = ltb-true room (length t) k
-    by false k q = absurd (n (ap (λ (v : Written). v .refusal) q))
-
-pub measured-fits : (w : Written) (t : List ℕ) (room : ℕ) → w ≡ measured t room → w .refusal ≡ 0 → length t ≤ room
-measured-fits w t room e n = by (ltb room (length t)) refl e
-  where
-    by : (c : Bool) → ltb room (length t) ≡ c → w ≡ cond c (refused 13) (accepted (length t)) → length t ≤ room
-    by true k q = absurd (let z : ⊥ = omega (arith, ap (λ (v : Written). v .refusal) q) in z)
-    by false k q = ltb-false room (length t) k
-
-length-written : (write : Bool) (b : List ℕ) (at : ℕ) (t : List ℕ) → length (writtenIf write b at t) ≡ length b
-length-written true b at t = length-placed b at t
-length-written false b at t = refl
+length-placed-if : (write : Bool) (b : List ℕ) (at : ℕ) (t : List ℕ) → length (placedIf write b at t) ≡ length b
+length-placed-if true b at t = length-placed b at t
+length-placed-if false b at t = refl
 
 -- a listing t of s, at bytes of which are listed in to bytes; where it is written, then into b₀, which is b now
-pub record Parts (write : Bool) (t s b₀ b : List ℕ) (g : Reader) (lines : List ℕ) (at to : ℕ) : Type 0 where
+pub record Underway (write : Bool) (t s b₀ b : List ℕ) (g : Reader) (lines : List ℕ) (at to : ℕ) : Type 0 where
   pub within : at ≤ length s
   pub good : Good g
   pub long : 4096 ≡ length lines
@@ -57,12 +30,12 @@ pub record Parts (write : Bool) (t s b₀ b : List ℕ) (g : Reader) (lines : Li
   pub placing : write ≡ true → placed b to (text (view g) (drop at s)) ≡ placed b₀ 0 t
   pub still : write ≡ false → b ≡ b₀
 
-module _ {write : Bool} {t s b₀ b : List ℕ} {g : Reader} {lines : List ℕ} {at to : ℕ} (w : Parts write t s b₀ b g lines at to) where
+module _ {write : Bool} {t s b₀ b : List ℕ} {g : Reader} {lines : List ℕ} {at to : ℕ} (w : Underway write t s b₀ b g lines at to) where
   -- where it is too long nothing is written
-  pub over-still : length b₀ < length t → b ≡ writtenIf write b₀ 0 t
+  pub over-still : length b₀ < length t → b ≡ placedIf write b₀ 0 t
   over-still h = by write refl
     where
-      by : (c : Bool) → write ≡ c → b ≡ writtenIf c b₀ 0 t
+      by : (c : Bool) → write ≡ c → b ≡ placedIf c b₀ 0 t
       by true e = absurd (let z : ⊥ = omega (arith, w .room e) in z)
       by false e = w .still e
 
@@ -74,15 +47,15 @@ module _ {write : Bool} {t s b₀ b : List ℕ} {g : Reader} {lines : List ℕ} 
     pub total-over : length b - to < length d → length b₀ < length t
     total-over h = omega (arith, total-rest, w .same, w .fits)
 
-    pub total-written : (b′ : List ℕ) → b′ ≡ writtenIf write b to d → b′ ≡ writtenIf write b₀ 0 t
+    pub total-written : (b′ : List ℕ) → b′ ≡ placedIf write b to d → b′ ≡ placedIf write b₀ 0 t
     total-written b′ e = by write refl
       where
-        by : (c : Bool) → write ≡ c → b′ ≡ writtenIf c b₀ 0 t
+        by : (c : Bool) → write ≡ c → b′ ≡ placedIf c b₀ 0 t
         by true p =
-            subst (λ (c : Bool). b′ ≡ writtenIf c b to d) p e
+            subst (λ (c : Bool). b′ ≡ placedIf c b to d) p e
             ∙ ap (placed b to) (sym q)
             ∙ w .placing p
-        by false p = subst (λ (c : Bool). b′ ≡ writtenIf c b to d) p e ∙ w .still p
+        by false p = subst (λ (c : Bool). b′ ≡ placedIf c b to d) p e ∙ w .still p
 
   -- after a call that lists a part
   module _ {x : Part} {lines′ : List ℕ} (l : Listed g s at x lines′) where
@@ -96,8 +69,8 @@ module _ {write : Bool} {t s b₀ b : List ℕ} {g : Reader} {lines : List ℕ} 
     pub part-over : length b - to < x .length → length b₀ < length t
     part-over h = omega (arith, part-rest, w .same, w .fits)
 
-    pub part-next : (b′ : List ℕ) → 4096 ≡ length lines′ → x .length ≤ length b - to → b′ ≡ writtenIf write b to (take (x .length) lines′)
-        → Parts write t s b₀ b′ (x .reader) lines′ (at + x .taken) (to + x .length)
+    pub part-next : (b′ : List ℕ) → 4096 ≡ length lines′ → x .length ≤ length b - to → b′ ≡ placedIf write b to (take (x .length) lines′)
+        → Underway write t s b₀ b′ (x .reader) lines′ (at + x .taken) (to + x .length)
     part-next b′ k h e =
         let p : List ℕ = take (x .length) lines′ in
         let d : List ℕ = text (view (x .reader)) (drop (at + x .taken) s) in
@@ -105,15 +78,15 @@ module _ {write : Bool} {t s b₀ b : List ℕ} {g : Reader} {lines : List ℕ} 
           within = l .within;
           good = l .good;
           long = k;
-          same = ap length e ∙ length-written write b to p ∙ w .same;
+          same = ap length e ∙ length-placed-if write b to p ∙ w .same;
           fits = omega (arith, w .same, w .fits);
           room = w .room;
           rest = omega (arith, part-rest);
           placing = λ c.
-              let f : b′ ≡ placed b to p = subst (λ (y : Bool). b′ ≡ writtenIf y b to p) c e in
+              let f : b′ ≡ placed b to p = subst (λ (y : Bool). b′ ≡ placedIf y b to p) c e in
               (λ i. placed (f i) (to + l .counts i) d)
               ∙ placed-more b to p d (omega (arith, part-rest, l .counts, w .room c, w .same))
               ∙ ap (placed b to) (sym (l .whole))
               ∙ w .placing c;
-          still = λ c. subst (λ (y : Bool). b′ ≡ writtenIf y b to p) c e ∙ w .still c;
+          still = λ c. subst (λ (y : Bool). b′ ≡ placedIf y b to p) c e ∙ w .still c;
         }

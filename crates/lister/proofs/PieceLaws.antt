@@ -11,8 +11,8 @@ use Rattle.line.specs.Table.Event.{nothing, message, refusal}
 use Rattle.line.specs.Record.{Rec, Possible, Result, limit, eventOf, stepped, orStop, walk}
 use Rattle.line.specs.Record as Record
 use Rattle.line.proofs.Mirror.{keeps-possible}
-use Rattle.listing.specs.Totals.{totalOf}
-use Rattle.lister.specs.Listing.{lineOf, text, longest, Piece, stop, oneMore, piece}
+use Rattle.listing.specs.Text.{totalOf, longestEvent}
+use Rattle.lister.specs.Listing.{lineOf, text, Piece, ending, byteAhead, piece}
 
 -- one turn of a walk, by whether there is room for b and by its event; x is what the other bytes come to
 abbrev turned : Rec → ℕ → Result → Bool → Event → Result
@@ -20,87 +20,75 @@ turned r b x t e =
     cond t (orStop e (Record.oneMore x) (record { after = stepped r b; answer = e; taken = 1 }))
     (record { after = r; answer = nothing; taken = 0 })
 
+-- what holds where a walk stops, after an event, and of one byte more in front, holds of every walk
+module _ (P : Rec → List ℕ → Result → Type 0)
+    (none : (r : Rec) → P r [] (record { after = r; answer = nothing; taken = 0 }))
+    (limited : (r : Rec) (b : ℕ) (bs : List ℕ) → ltb (r .fed) limit ≡ false → P r (b ∷ bs) (record { after = r; answer = nothing; taken = 0 }))
+    (quiet : (r : Rec) (b : ℕ) (bs : List ℕ) (x : Result) → ltb (r .fed) limit ≡ true → eventOf r b ≡ nothing → P (stepped r b) bs x
+    → P r (b ∷ bs) (Record.oneMore x))
+    (event : (r : Rec) (b : ℕ) (bs : List ℕ) (e : Event) → ltb (r .fed) limit ≡ true → eventOf r b ≡ e
+    → P r (b ∷ bs) (record { after = stepped r b; answer = e; taken = 1 })) where
+  pub walk-by : (l : List ℕ) (r : Rec) → P r l (walk r l)
+  walk-by [] r = none r
+  walk-by (b ∷ bs) r = by (ltb (r .fed) limit) (eventOf r b) refl refl (walk-by bs (stepped r b))
+    where
+      x : Result
+      x = walk (stepped r b) bs
+
+      by : (t : Bool) (e : Event) → ltb (r .fed) limit ≡ t → eventOf r b ≡ e → P (stepped r b) bs x → P r (b ∷ bs) (turned r b x t e)
+      by false e k q h = limited r b bs k
+      by true nothing k q h = quiet r b bs x k q h
+      by true (message i d n) k q h = event r b bs (message i d n) k q
+      by true (refusal v i n) k q h = event r b bs (refusal v i n) k q
+
 -- what a walk keeps
 pub walk-mode : (l : List ℕ) (r : Rec) → walk r l .after .mode ≡ r .mode
-walk-mode [] r = refl
-walk-mode (b ∷ bs) r = by (ltb (r .fed) limit) (eventOf r b) (walk-mode bs (stepped r b))
-  where
-    by : (t : Bool) (e : Event) → walk (stepped r b) bs .after .mode ≡ r .mode
-        → turned r b (walk (stepped r b) bs) t e .after .mode ≡ r .mode
-    by false e h = refl
-    by true nothing h = h
-    by true (message i d n) h = refl
-    by true (refusal v i n) h = refl
+walk-mode =
+    walk-by (λ r l x. x .after .mode ≡ r .mode) (λ r. refl) (λ r b bs k. refl) (λ r b bs x k q h. h) (λ r b bs e k q. refl)
 
 pub walk-possible : (l : List ℕ) (r : Rec) → Possible r → Possible (walk r l .after)
-walk-possible [] r p = p
-walk-possible (b ∷ bs) r p = by (ltb (r .fed) limit) (eventOf r b) (walk-possible bs (stepped r b) (keeps-possible r b p))
-  where
-    by : (t : Bool) (e : Event) → Possible (walk (stepped r b) bs .after) → Possible (turned r b (walk (stepped r b) bs) t e .after)
-    by false e h = p
-    by true nothing h = h
-    by true (message i d n) h = keeps-possible r b p
-    by true (refusal v i n) h = keeps-possible r b p
+walk-possible =
+    walk-by (λ r l x. Possible r → Possible (x .after)) (λ r p. p) (λ r b bs k p. p) (λ r b bs x k q h p. h (keeps-possible r b p))
+    (λ r b bs e k q p. keeps-possible r b p)
 
 pub walk-fed : (l : List ℕ) (r : Rec) → walk r l .after .fed ≡ r .fed + walk r l .taken
-walk-fed [] r = omega arith
-walk-fed (b ∷ bs) r = by (ltb (r .fed) limit) (eventOf r b) (walk-fed bs (stepped r b))
-  where
-    x : Result
-    x = walk (stepped r b) bs
-
-    by : (t : Bool) (e : Event) → x .after .fed ≡ r .fed + 1 + x .taken → turned r b x t e .after .fed ≡ r .fed + turned r b x t e .taken
-    by false e h = omega arith
-    by true nothing h = omega arith
-    by true (message i d n) h = refl
-    by true (refusal v i n) h = refl
+walk-fed =
+    walk-by (λ r l x. x .after .fed ≡ r .fed + x .taken) (λ r. omega arith) (λ r b bs k. omega arith)
+    (λ r b bs x k q h. omega (arith, h)) (λ r b bs e k q. refl)
 
 -- a walk that takes nothing leaves the record, and has no event
-pub stays : (l : List ℕ) (r : Rec) → walk r l .taken ≡ 0 → (walk r l .after ≡ r) × (walk r l .answer ≡ nothing)
-stays [] r h = (refl, refl)
-stays (b ∷ bs) r h = by (ltb (r .fed) limit) (eventOf r b) h
-  where
-    x : Result
-    x = walk (stepped r b) bs
-
-    by : (t : Bool) (e : Event) → turned r b x t e .taken ≡ 0 → (turned r b x t e .after ≡ r) × (turned r b x t e .answer ≡ nothing)
-    by false e h = (refl, refl)
-    by true nothing h = absurd (omega arith)
-    by true (message i d n) h = absurd (omega arith)
-    by true (refusal v i n) h = absurd (omega arith)
+stays : (l : List ℕ) (r : Rec) → walk r l .taken ≡ 0 → (walk r l .after ≡ r) × (walk r l .answer ≡ nothing)
+stays =
+    walk-by (λ r l x. x .taken ≡ 0 → (x .after ≡ r) × (x .answer ≡ nothing)) (λ r h. (refl, refl)) (λ r b bs k h. (refl, refl))
+    (λ r b bs x k q i h. absurd (omega arith)) (λ r b bs e k q h. absurd (omega arith))
 
 -- a byte that can be counted is taken
 pub walk-some : (b : ℕ) (bs : List ℕ) (r : Rec) → ltb (r .fed) limit ≡ true → 0 < walk r (b ∷ bs) .taken
-walk-some b bs r q = rw q (by (eventOf r b))
-  where
-    x : Result
-    x = walk (stepped r b) bs
-
-    by : (e : Event) → 0 < turned r b x true e .taken
-    by nothing = omega arith
-    by (message i d n) = omega arith
-    by (refusal v i n) = omega arith
+walk-some b bs r t =
+    walk-by (λ r l x. 0 < length l → ltb (r .fed) limit ≡ true → 0 < x .taken) (λ r h t. absurd (omega arith))
+    (λ r b bs k h t. absurd (let g : _≡_ {A = ℕ} 0 1 = cc in omega arith)) (λ r b bs x k q i h t. omega arith)
+    (λ r b bs e k q h t. omega arith) (b ∷ bs) r (omega arith) t
 
 -- n bytes and their line in front of a piece
 abbrev pub ahead : ℕ → List ℕ → Piece → Piece
 ahead n l p = record { after = p .after; refusal = p .refusal; taken = n + p .taken; lines = l ++ p .lines }
 
 -- where there is no room, and where the first byte can't be counted
-pub piece-full : (room : ℕ) (r : Rec) (l : List ℕ) → ltb room longest ≡ true → piece room r l ≡ stop 0 r
+pub piece-full : (room : ℕ) (r : Rec) (l : List ℕ) → ltb room longestEvent ≡ true → piece room r l ≡ ending 0 r
 piece-full room r [] q = refl
 piece-full room r (b ∷ bs) q = rw q
 
-pub piece-limit : (room : ℕ) (r : Rec) (b : ℕ) (bs : List ℕ) → ltb room longest ≡ false → ltb (r .fed) limit ≡ false
-    → piece room r (b ∷ bs) ≡ stop 3 r
+pub piece-limit : (room : ℕ) (r : Rec) (b : ℕ) (bs : List ℕ) → ltb room longestEvent ≡ false → ltb (r .fed) limit ≡ false
+    → piece room r (b ∷ bs) ≡ ending 3 r
 piece-limit room r b bs q h = rw (q, h)
 
 -- one byte without an event in front of a slice call
-quiet : (n : ℕ) (l : List ℕ) (p : Piece) → oneMore [] (ahead n l p) ≡ ahead (suc n) l p
+quiet : (n : ℕ) (l : List ℕ) (p : Piece) → byteAhead [] (ahead n l p) ≡ ahead (suc n) l p
 quiet n l p =
     let e : suc (n + p .taken) ≡ suc n + p .taken = omega arith in
     λ i. record { after = p .after; refusal = p .refusal; taken = e i; lines = l ++ p .lines }
 
-single : (l : List ℕ) (p : Piece) → oneMore l p ≡ ahead 1 l p
+single : (l : List ℕ) (p : Piece) → byteAhead l p ≡ ahead 1 l p
 single l p =
     let e : suc (p .taken) ≡ 1 + p .taken = omega arith in
     λ i. record { after = p .after; refusal = p .refusal; taken = e i; lines = l ++ p .lines }
@@ -112,7 +100,7 @@ rest room w l =
     ahead (w .taken) s (piece (room - length s) (w .after) (drop (w .taken) l))
 
 -- a slice call that takes something: its line, and then the piece from where it stopped
-pub piece-walk : (l : List ℕ) (room : ℕ) (r : Rec) → ltb room longest ≡ false → 0 < walk r l .taken → piece room r l ≡ rest room (walk r l) l
+pub piece-walk : (l : List ℕ) (room : ℕ) (r : Rec) → ltb room longestEvent ≡ false → 0 < walk r l .taken → piece room r l ≡ rest room (walk r l) l
 piece-walk [] room r q h = absurd (omega arith)
 piece-walk (b ∷ bs) room r q h =
     rw q (by (ltb (r .fed) limit) (eventOf r b) h (λ k. piece-walk bs room (stepped r b) q k))
@@ -123,7 +111,7 @@ piece-walk (b ∷ bs) room r q h =
     none : room - 0 ≡ room
     none = omega arith
 
-    raised : (e : Event) → oneMore (lineOf (r .fed) e) (piece (room - length (lineOf (r .fed) e)) (stepped r b) bs)
+    raised : (e : Event) → byteAhead (lineOf (r .fed) e) (piece (room - length (lineOf (r .fed) e)) (stepped r b) bs)
         ≡ rest room (record { after = stepped r b; answer = e; taken = 1 }) (b ∷ bs)
     raised e =
         let o : r .fed ≡ r .fed + 1 - 1 = omega arith in
@@ -131,49 +119,60 @@ piece-walk (b ∷ bs) room r q h =
         ∙ (λ i. ahead 1 (lineOf (o i) e) (piece (room - length (lineOf (o i) e)) (stepped r b) bs))
 
     silent : (n : ℕ) → x .taken ≡ n → (0 < x .taken → piece room (stepped r b) bs ≡ rest room x bs)
-        → oneMore [] (piece (room - 0) (stepped r b) bs) ≡ rest room (Record.oneMore x) (b ∷ bs)
+        → byteAhead [] (piece (room - 0) (stepped r b) bs) ≡ rest room (Record.oneMore x) (b ∷ bs)
     silent zero e ih =
         let w = stays bs (stepped r b) e in
         single [] (piece (room - 0) (stepped r b) bs)
         ∙ sym (λ i. ahead (suc (e i)) (lineOf (w .0 i .fed - 1) (w .1 i)) (piece (room - length (lineOf (w .0 i .fed - 1) (w .1 i))) (w .0 i) (drop (e i) bs)))
     silent (suc n) e ih =
-        ap (λ (k : ℕ). oneMore [] (piece k (stepped r b) bs)) none
-        ∙ ap (oneMore []) (ih (omega arith))
+        ap (λ (k : ℕ). byteAhead [] (piece k (stepped r b) bs)) none
+        ∙ ap (byteAhead []) (ih (omega arith))
         ∙ quiet (x .taken) (lineOf (x .after .fed - 1) (x .answer)) _
 
     by : (t : Bool) (e : Event) → 0 < turned r b x t e .taken → (0 < x .taken → piece room (stepped r b) bs ≡ rest room x bs)
-        → cond t (oneMore (lineOf (r .fed) e) (piece (room - length (lineOf (r .fed) e)) (stepped r b) bs)) (stop 3 r)
+        → cond t (byteAhead (lineOf (r .fed) e) (piece (room - length (lineOf (r .fed) e)) (stepped r b) bs)) (ending 3 r)
         ≡ rest room (turned r b x t e) (b ∷ bs)
     by false e h ih = absurd (omega arith)
     by true nothing h ih = silent (x .taken) refl ih
     by true (message i d n) h ih = raised (message i d n)
     by true (refusal v i n) h ih = raised (refusal v i n)
 
--- one turn of a piece, by whether there is room for a line, and whether b can be counted; p is what the other bytes come to
-abbrev pub pieced : Rec → List ℕ → Piece → Bool → Bool → Piece
-pieced r l p u t = cond u (stop 0 r) (cond t (oneMore l p) (stop 3 r))
+-- what holds where a piece ends, and of one byte more in front, holds of every piece
+module _ (P : ℕ → Rec → List ℕ → Piece → Type 0)
+    (none : (room : ℕ) (r : Rec) → P room r [] (ending 0 r))
+    (full : (room : ℕ) (r : Rec) (l : List ℕ) → ltb room longestEvent ≡ true → P room r l (ending 0 r))
+    (limited : (room : ℕ) (r : Rec) (b : ℕ) (bs : List ℕ) → ltb (r .fed) limit ≡ false → P room r (b ∷ bs) (ending 3 r))
+    (more : (room : ℕ) (r : Rec) (b : ℕ) (bs : List ℕ) (p : Piece) → ltb (r .fed) limit ≡ true
+    → P (room - length (lineOf (r .fed) (eventOf r b))) (stepped r b) bs p → P room r (b ∷ bs) (byteAhead (lineOf (r .fed) (eventOf r b)) p)) where
+  pub piece-by : (l : List ℕ) (room : ℕ) (r : Rec) → P room r l (piece room r l)
+  piece-by [] room r = none room r
+  piece-by (b ∷ bs) room r =
+      by (ltb room longestEvent) (ltb (r .fed) limit) refl refl (piece-by bs (room - length s) (stepped r b))
+    where
+      s : List ℕ
+      s = lineOf (r .fed) (eventOf r b)
+
+      p : Piece
+      p = piece (room - length s) (stepped r b) bs
+
+      by : (u t : Bool) → ltb room longestEvent ≡ u → ltb (r .fed) limit ≡ t → P (room - length s) (stepped r b) bs p
+          → P room r (b ∷ bs) (cond u (ending 0 r) (cond t (byteAhead s p) (ending 3 r)))
+      by true t q k h = full room r (b ∷ bs) q
+      by false true q k h = more room r b bs p k h
+      by false false q k h = limited room r b bs k
 
 -- what a piece leaves of the listing; more bytes, m, may follow those that are offered
 pub text-piece-more : (l m : List ℕ) (room : ℕ) (r : Rec)
     → text r (l ++ m) ≡ piece room r l .lines ++ text (piece room r l .after) (drop (piece room r l .taken) (l ++ m))
-text-piece-more [] m room r = refl
-text-piece-more (b ∷ bs) m room r =
-    by (ltb room longest) (ltb (r .fed) limit) refl (text-piece-more bs m (room - length (lineOf (r .fed) (eventOf r b))) (stepped r b))
-  where
-    s : List ℕ
-    s = lineOf (r .fed) (eventOf r b)
-
-    p : Piece
-    p = piece (room - length s) (stepped r b) bs
-
-    by : (u t : Bool) → ltb (r .fed) limit ≡ t → text (stepped r b) (bs ++ m) ≡ p .lines ++ text (p .after) (drop (p .taken) (bs ++ m))
-        → text r (b ∷ (bs ++ m)) ≡ pieced r s p u t .lines ++ text (pieced r s p u t .after) (drop (pieced r s p u t .taken) (b ∷ (bs ++ m)))
-    by true t q ih = refl
-    by false true q ih =
-        ap (λ (c : Bool). cond c (s ++ text (stepped r b) (bs ++ m)) (totalOf r)) q
-        ∙ ap (λ (z : List ℕ). s ++ z) ih
-        ∙ sym (append-assoc s (p .lines) (text (p .after) (drop (p .taken) (bs ++ m))))
-    by false false q ih = refl
+text-piece-more l m =
+    piece-by (λ room r k p. text r (k ++ m) ≡ p .lines ++ text (p .after) (drop (p .taken) (k ++ m))) (λ room r. refl) (λ room r k q. refl)
+    (λ room r b bs k. refl)
+    (λ room r b bs p k ih.
+    let s = lineOf (r .fed) (eventOf r b) in
+    ap (λ (c : Bool). cond c (s ++ text (stepped r b) (bs ++ m)) (totalOf r)) k
+    ∙ ap (λ (z : List ℕ). s ++ z) ih
+    ∙ sym (append-assoc s (p .lines) (text (p .after) (drop (p .taken) (bs ++ m)))))
+    l
 
 pub text-piece : (l : List ℕ) (room : ℕ) (r : Rec)
     → text r l ≡ piece room r l .lines ++ text (piece room r l .after) (drop (piece room r l .taken) l)
@@ -183,52 +182,19 @@ text-piece l room r =
 
 -- what a piece keeps
 pub piece-mode : (l : List ℕ) (room : ℕ) (r : Rec) → piece room r l .after .mode ≡ r .mode
-piece-mode [] room r = refl
-piece-mode (b ∷ bs) room r =
-    by (ltb room longest) (ltb (r .fed) limit) (piece-mode bs (room - length (lineOf (r .fed) (eventOf r b))) (stepped r b))
-  where
-    s : List ℕ
-    s = lineOf (r .fed) (eventOf r b)
-
-    p : Piece
-    p = piece (room - length s) (stepped r b) bs
-
-    by : (u t : Bool) → p .after .mode ≡ r .mode → pieced r s p u t .after .mode ≡ r .mode
-    by true t h = refl
-    by false true h = h
-    by false false h = refl
+piece-mode =
+    piece-by (λ room r l p. p .after .mode ≡ r .mode) (λ room r. refl) (λ room r l q. refl) (λ room r b bs k. refl) (λ room r b bs p k h. h)
 
 pub piece-possible : (l : List ℕ) (room : ℕ) (r : Rec) → Possible r → Possible (piece room r l .after)
-piece-possible [] room r h = h
-piece-possible (b ∷ bs) room r h =
-    by (ltb room longest) (ltb (r .fed) limit)
-    (piece-possible bs (room - length (lineOf (r .fed) (eventOf r b))) (stepped r b) (keeps-possible r b h))
-  where
-    s : List ℕ
-    s = lineOf (r .fed) (eventOf r b)
-
-    p : Piece
-    p = piece (room - length s) (stepped r b) bs
-
-    by : (u t : Bool) → Possible (p .after) → Possible (pieced r s p u t .after)
-    by true t k = h
-    by false true k = k
-    by false false k = h
+piece-possible =
+    piece-by (λ room r l p. Possible r → Possible (p .after)) (λ room r h. h) (λ room r l q h. h) (λ room r b bs k h. h)
+    (λ room r b bs p k i h. i (keeps-possible r b h))
 
 -- a piece that takes nothing, though there is room, stands before the total
-pub piece-end : (l : List ℕ) (room : ℕ) (r : Rec) → ltb room longest ≡ false → piece room r l .taken ≡ 0
-    → (piece room r l .after ≡ r) × (piece room r l .lines ≡ []) × (text r l ≡ totalOf r)
-piece-end [] room r q h = (refl, refl, refl)
-piece-end (b ∷ bs) room r q h = by (ltb room longest) (ltb (r .fed) limit) q refl h
-  where
-    s : List ℕ
-    s = lineOf (r .fed) (eventOf r b)
-
-    p : Piece
-    p = piece (room - length s) (stepped r b) bs
-
-    by : (u t : Bool) → u ≡ false → ltb (r .fed) limit ≡ t → pieced r s p u t .taken ≡ 0
-        → (pieced r s p u t .after ≡ r) × (pieced r s p u t .lines ≡ []) × (text r (b ∷ bs) ≡ totalOf r)
-    by true t e k z = absurd (let g : _≡_ {A = ℕ} 0 1 = cc in omega arith)
-    by false true e k z = absurd (omega arith)
-    by false false e k z = (refl, refl, ap (λ (c : Bool). cond c (s ++ text (stepped r b) bs) (totalOf r)) k)
+pub piece-end : (l : List ℕ) (room : ℕ) (r : Rec) → ltb room longestEvent ≡ false → piece room r l .taken ≡ 0
+    → (piece room r l .after ≡ r) × (text r l ≡ totalOf r)
+piece-end =
+    piece-by (λ room r l p. ltb room longestEvent ≡ false → p .taken ≡ 0 → (p .after ≡ r) × (text r l ≡ totalOf r)) (λ room r q h. (refl, refl))
+    (λ room r l t q h. absurd (let g : _≡_ {A = ℕ} 0 1 = cc in omega arith))
+    (λ room r b bs k q h. (refl, ap (λ (c : Bool). cond c (lineOf (r .fed) (eventOf r b) ++ text (stepped r b) bs) (totalOf r)) k))
+    (λ room r b bs p k i q h. absurd (omega arith))

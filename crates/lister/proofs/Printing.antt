@@ -13,34 +13,24 @@ use Rattle.record.specs.declared.Reader.{Reader}
 use Rattle.record.specs.declared.Fresh.{Fresh}
 use Rattle.record.specs.View.{view}
 use Rattle.record.specs.Posts.{FreshPost}
-use Rattle.listing.specs.Totals.{Counts, totalOf}
+use Rattle.octets.specs.Delivery.{Counts}
+use Rattle.listing.specs.Text.{totalOf, longestEvent}
 use Rattle.lister.specs.declared.Part.{Part}
-use Rattle.lister.specs.Listing.{lineOf, text, longest, Piece, piece}
+use Rattle.lister.specs.Listing.{lineOf, text, Piece, piece}
 use Rattle.lister.specs.Posts.{PartPost, Good, Prints}
 use Rattle.lister.specs.Posts.Prints.{ended, full, part}
-use Rattle.lister.proofs.PieceLaws.{pieced, text-piece-more}
+use Rattle.lister.proofs.PieceLaws.{piece-by, text-piece-more}
 use Rattle.lister.proofs.PartLaws.{part-is, part-good, part-lines}
 use Rattle.lister.proofs.FreshLaws.{fresh-good}
 
 -- where the next byte can't be counted, the total follows
 full-piece : (l m : List ℕ) (room : ℕ) (r : Rec) → piece room r l .refusal ≡ 3
     → text (piece room r l .after) (drop (piece room r l .taken) (l ++ m)) ≡ totalOf (piece room r l .after)
-full-piece [] m room r h = absurd (omega arith)
-full-piece (b ∷ bs) m room r h =
-    by (ltb room longest) (ltb (r .fed) limit) refl h (full-piece bs m (room - length (lineOf (r .fed) (eventOf r b))) (stepped r b))
-  where
-    s : List ℕ
-    s = lineOf (r .fed) (eventOf r b)
-
-    p : Piece
-    p = piece (room - length s) (stepped r b) bs
-
-    by : (u t : Bool) → ltb (r .fed) limit ≡ t → pieced r s p u t .refusal ≡ 3
-        → (p .refusal ≡ 3 → text (p .after) (drop (p .taken) (bs ++ m)) ≡ totalOf (p .after))
-        → text (pieced r s p u t .after) (drop (pieced r s p u t .taken) (b ∷ (bs ++ m))) ≡ totalOf (pieced r s p u t .after)
-    by true t q h ih = absurd (omega arith)
-    by false true q h ih = ih h
-    by false false q h ih = ap (λ (c : Bool). cond c (s ++ text (stepped r b) (bs ++ m)) (totalOf r)) q
+full-piece l m =
+    piece-by (λ room r k p. p .refusal ≡ 3 → text (p .after) (drop (p .taken) (k ++ m)) ≡ totalOf (p .after)) (λ room r h. absurd (omega arith))
+    (λ room r k q h. absurd (omega arith))
+    (λ room r b bs k h. ap (λ (c : Bool). cond c (lineOf (r .fed) (eventOf r b) ++ text (stepped r b) (bs ++ m)) (totalOf r)) k)
+    (λ room r b bs p k h. h) l
 
 -- one call
 module _ (r : Reader) (s b : List ℕ) (x : Part) (b′ : List ℕ) (q : PartPost r s b x b′) (c : Counts (x .length) b′) (g : Good r) where

@@ -16,8 +16,8 @@ use Rattle.record.specs.declared.Reader.{Reader}
 use Rattle.record.specs.declared.Fed.{Fed}
 use Rattle.record.specs.Posts.{FeedPost}
 use Rattle.listing.proofs.LineLaws.{after}
-use Rattle.lister.specs.Listing.{longest}
-use Rattle.lister.specs.Posts.{PartPost, numberOf}
+use Rattle.listing.specs.Text.{longestEvent}
+use Rattle.lister.specs.Posts.{PartPost, eventNumber}
 use Rattle.lister.proofs.FeedLaws.{lineFrom, offered, Out, last, more, taken-fits, fed-some, room-left}
 
 -- at bytes were taken of s by the reader r₀, which is r now; to bytes were written into b₀, which is b now
@@ -29,8 +29,8 @@ pub record Turn (r₀ : Reader) (s b₀ : List ℕ) (r : Reader) (b : List ℕ) 
   pub right : (g : Reader) (v n : ℕ) (t : List ℕ) → Out r (drop at s) (length b - to) g v n t
       → Out r₀ s (length b₀) g v (at + n) (take to b ++ t)
 
-pub begun : (r : Reader) (s b : List ℕ) → Turn r s b r b 0 0
-begun r s b =
+pub turn-none : (r : Reader) (s b : List ℕ) → Turn r s b r b 0 0
+turn-none r s b =
     let e : length b - 0 ≡ length b = omega arith in
     record {
       within = omega arith;
@@ -41,23 +41,23 @@ begun r s b =
     }
 
 -- the bytes that a turn offers
-pub part-offered : (s : List ℕ) (at room end : ℕ) → end ≡ cond (ltb room longest) at (length s)
+pub part-offered : (s : List ℕ) (at room end : ℕ) → end ≡ cond (ltb room longestEvent) at (length s)
     → take (end - at) (drop at s) ≡ offered room (drop at s)
-part-offered s at room end e = ap (λ (k : ℕ). take (k - at) (drop at s)) e ∙ by (ltb room longest)
+part-offered s at room end e = ap (λ (k : ℕ). take (k - at) (drop at s)) e ∙ by (ltb room longestEvent)
   where
     by : (t : Bool) → take (cond t at (length s) - at) (drop at s) ≡ cond t [] (drop at s)
     by true = let z : at - at ≡ 0 = omega arith in ap (λ (k : ℕ). take k (drop at s)) z
     by false = take-all (length s - at) (drop at s) (rw length-drop (omega arith))
 
-pub offer-within : (s : List ℕ) (at room end : ℕ) → end ≡ cond (ltb room longest) at (length s) → at ≤ length s → (at ≤ end) × (end ≤ length s)
-offer-within s at room end e h = by (ltb room longest) e
+pub offer-within : (s : List ℕ) (at room end : ℕ) → end ≡ cond (ltb room longestEvent) at (length s) → at ≤ length s → (at ≤ end) × (end ≤ length s)
+offer-within s at room end e h = by (ltb room longestEvent) e
   where
     by : (t : Bool) → end ≡ cond t at (length s) → (at ≤ end) × (end ≤ length s)
     by true e = (omega arith, omega arith)
     by false e = (omega arith, omega arith)
 
 pub offered-within : (room : ℕ) (s : List ℕ) → length (offered room s) ≤ length s
-offered-within room s = by (ltb room longest)
+offered-within room s = by (ltb room longestEvent)
   where
     by : (t : Bool) → length (cond t [] s) ≤ length s
     by true = omega arith
@@ -94,8 +94,8 @@ module _ {r₀ : Reader} {s b₀ : List ℕ} {r : Reader} {b : List ℕ} {at to 
         w .within,
       )
 
-  pub turn-room : 0 < x .taken → longest ≤ length b - to
-  turn-room h = ltb-false (length b - to) longest (room-left r (drop at s) (length b - to) x q h)
+  pub turn-room : 0 < x .taken → longestEvent ≤ length b - to
+  turn-room h = ltb-false (length b - to) longestEvent (room-left r (drop at s) (length b - to) x q h)
 
   pub turn-fed : 0 < x .taken → 0 < x .reader .head .fed
   turn-fed h = fed-some r (offered (length b - to) (drop at s)) x q h
@@ -133,9 +133,9 @@ module _ {r₀ : Reader} {s b₀ : List ℕ} {r : Reader} {b : List ℕ} {at to 
 
   -- nothing was taken
   pub turn-last : x .taken ≡ 0
-      → PartPost r₀ s b₀ (record { reader = x .reader; refusal = numberOf (x .answer .event); taken = at; length = to }) b
+      → PartPost r₀ s b₀ (record { reader = x .reader; refusal = eventNumber (x .answer .event); taken = at; length = to }) b
   turn-last z =
-      let v = numberOf (x .answer .event) in
+      let v = eventNumber (x .answer .event) in
       let n : length (take to b) ≡ to = length-take-le to b (w .room) in
       let u : Out r₀ s (length b₀) (x .reader) v at (take to b) =
       subst (λ (l : List ℕ). Out r₀ s (length b₀) (x .reader) v at l) (append-nil (take to b))

@@ -9,12 +9,12 @@ use Rattle.line.specs.Record.Fresh.{made, refused}
 use Rattle.record.specs.declared.Event.{Event as Shown}
 use Rattle.record.specs.declared.Event.the-variants.{Nothing, Message, Refusal}
 
-abbrev pub one : Event → ℕ
-one e = byEvent e 0 (λ id d n. 1) (λ v id n. 1)
+abbrev pub occurs : Event → ℕ
+occurs e = byEvent e 0 (λ id d n. 1) (λ v id n. 1)
 
 abbrev pub raised : Rec → List ℕ → ℕ
 raised r [] = 0
-raised r (b ∷ bs) = cond (ltb (r .fed) limit) (one (eventOf r b) + raised (stepped r b) bs) 0
+raised r (b ∷ bs) = cond (ltb (r .fed) limit) (occurs (eventOf r b) + raised (stepped r b) bs) 0
 
 -- by a fresh reader: where there is none, no event is raised
 abbrev pub countOf : Fresh → List ℕ → ℕ
@@ -22,7 +22,7 @@ countOf (made r) s = raised r s
 countOf (refused v) s = 0
 
 -- of a private function: an event in memory
-abbrev pub countShown : Shown → ℕ
-countShown Nothing = 0
-countShown Message = 1
-countShown (Refusal v) = 1
+abbrev pub occursShown : Shown → ℕ
+occursShown Nothing = 0
+occursShown Message = 1
+occursShown (Refusal v) = 1

@@ -1,4 +1,3 @@
 pub mod Listing
 pub mod Counting
 pub mod Posts
-pub mod WholePosts

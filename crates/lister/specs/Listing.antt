@@ -5,9 +5,9 @@ use Prim.Native.Nat.{ℕ, suc, _-_}
 use lib.Dec.{ltb}
 use lib.ListN.{length}
 use Rattle.line.specs.Table.{Event, byEvent}
-use Rattle.line.specs.Record.{Rec, limit, eventOf, stepped}
-use Rattle.listing.specs.Text.{eventLine}
-use Rattle.listing.specs.Totals.{totalOf}
+use Rattle.line.specs.Record.{Rec, Fresh, limit, eventOf, stepped}
+use Rattle.line.specs.Record.Fresh.{made, refused}
+use Rattle.listing.specs.Text.{eventLine, totalOf, longestEvent}
 
 -- the line of an event at this offset: nothing yet has none, a message has number 0
 abbrev pub lineOf : ℕ → Event → List ℕ
@@ -18,9 +18,14 @@ abbrev pub text : Rec → List ℕ → List ℕ
 text r [] = totalOf r
 text r (b ∷ bs) = cond (ltb (r .fed) limit) (lineOf (r .fed) (eventOf r b) ++ text (stepped r b) bs) (totalOf r)
 
--- no line of an event is longer
-abbrev pub longest : ℕ
-longest = 29
+-- by a fresh reader: the number by which that is refused, else 0; and the listing
+abbrev pub freshRefusal : Fresh → ℕ
+freshRefusal (made r) = 0
+freshRefusal (refused v) = v
+
+abbrev pub listingOf : Fresh → List ℕ → List ℕ
+listingOf (made r) s = text r s
+listingOf (refused v) s = []
 
 -- a part of a listing: the record where it stops, 3 where the next byte can't be counted and else 0, the bytes taken, the lines
 pub record Piece : Type 0 where
@@ -29,16 +34,16 @@ pub record Piece : Type 0 where
   pub taken : ℕ
   pub lines : List ℕ
 
-abbrev pub stop : ℕ → Rec → Piece
-stop v r = record { after = r; refusal = v; taken = 0; lines = [] }
+abbrev pub ending : ℕ → Rec → Piece
+ending v r = record { after = r; refusal = v; taken = 0; lines = [] }
 
 -- one byte more in front, and its line
-abbrev pub oneMore : List ℕ → Piece → Piece
-oneMore l p = record { after = p .after; refusal = p .refusal; taken = suc (p .taken); lines = l ++ p .lines }
+abbrev pub byteAhead : List ℕ → Piece → Piece
+byteAhead l p = record { after = p .after; refusal = p .refusal; taken = suc (p .taken); lines = l ++ p .lines }
 
 -- as many bytes as can be listed while there is room for a line of any length
 abbrev pub piece : ℕ → Rec → List ℕ → Piece
-piece room r [] = stop 0 r
+piece room r [] = ending 0 r
 piece room r (b ∷ bs) =
     let l = lineOf (r .fed) (eventOf r b) in
-    cond (ltb room longest) (stop 0 r) (cond (ltb (r .fed) limit) (oneMore l (piece (room - length l) (stepped r b) bs)) (stop 3 r))
+    cond (ltb room longestEvent) (ending 0 r) (cond (ltb (r .fed) limit) (byteAhead l (piece (room - length l) (stepped r b) bs)) (ending 3 r))

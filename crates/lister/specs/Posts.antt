@@ -1,18 +1,19 @@
 -- What the calls return and leave.
+use mathlib.Core.Bool.{Bool, cond}
 use mathlib.Core.List.{List, [], _++_}
 use mathlib.Core.Path.{_≡_}
 use Prim.Native.Nat.{ℕ, _≤_}
 use lib.ListN.{length, take, drop}
 use Rattle.octets.specs.Placing.{placed}
+use Rattle.octets.specs.Delivery.{Counts}
 use Rattle.line.specs.Record.{Asked, Possible}
 use Rattle.record.specs.declared.Reader.{Reader}
 use Rattle.record.specs.declared.Event.{Event}
 use Rattle.record.specs.declared.Event.the-variants.{Nothing, Message, Refusal}
 use Rattle.record.specs.View.{view}
 use Rattle.record.specs.declared.InPlace.{InPlace}
-use Rattle.listing.specs.Text.{eventLine}
+use Rattle.listing.specs.Text.{eventLine, totalOf}
 use Rattle.lister.specs.declared.Part.{Part}
-use Rattle.listing.specs.Totals.{Counts, totalOf}
 use Rattle.lister.specs.Listing.{piece}
 use Rattle.lister.specs.Counting.{raised}
 
@@ -41,20 +42,24 @@ pub data Prints : Reader → List ℕ → List ℕ → Type 0 where
       → Prints (x .reader) (drop (x .taken) (s ++ m)) out → Prints r (s ++ m) (take (x .length) b′ ++ out)
 
 -- of private functions: nothing is taken yet
-abbrev pub begun : Reader → InPlace
-begun r = record { head = r .head; latest = r .latest; event = Nothing; id = 0; len = 0; closed = 0; taken = 0 }
+abbrev pub untaken : Reader → InPlace
+untaken r = record { head = r .head; latest = r .latest; event = Nothing; id = 0; len = 0; closed = 0; taken = 0 }
 
 -- a reader that questions 1 and 2 let pass
 abbrev pub Good : Reader → Type 0
 Good r = (r .head .mode ≤ 1) × Possible (view r)
 
 -- the number of an event in memory, and its line
-abbrev pub numberOf : Event → ℕ
-numberOf Nothing = 0
-numberOf Message = 0
-numberOf (Refusal v) = v
+abbrev pub eventNumber : Event → ℕ
+eventNumber Nothing = 0
+eventNumber Message = 0
+eventNumber (Refusal v) = v
 
 abbrev pub lineShown : ℕ → Event → ℕ → ℕ → List ℕ
 lineShown offset Nothing id n = []
 lineShown offset Message id n = eventLine offset id 0 n
 lineShown offset (Refusal v) id n = eventLine offset id v n
+
+-- bytes that are put into a buffer, if they are to be
+abbrev pub placedIf : Bool → List ℕ → ℕ → List ℕ → List ℕ
+placedIf write b at t = cond write (placed b at t) b

@@ -1,24 +1,23 @@
-// The events that the reader's slice call raises: a line for each, and how many there are.
-// The listing of a whole slice, by a fresh reader.
+// The listing of bytes: a line for each event that the reader's slice call raises, part by part or whole, and how many there are.
+use listing::LONGEST_EVENT;
 use octets::Written;
+use record::Count;
 use record::Event;
 use record::InPlace;
 use record::Reader;
 ghost use mathlib.Core.Bool.{true, cond};
 ghost use mathlib.Core.Path.{_≡_};
 ghost use Prim.Native.Nat.{_≤_};
+ghost use lib.Dec.{ltb};
 ghost use lib.ListN.{length};
+ghost use Rattle.octets.specs.Placing.{placed};
+ghost use Rattle.octets.specs.Delivery.{writtenOf, filledOf, Counts};
 ghost use Rattle.line.specs.Record.{fresh};
 ghost use Rattle.record.specs.View.{view};
-ghost use Rattle.lister.specs.Listing.{text};
-ghost use Rattle.lister.specs.Posts.{Good};
-ghost use Rattle.lister.specs.WholePosts.{listedOf, filledOf, measured, writtenIf};
-ghost use lib.Dec.{ltb};
-ghost use Rattle.octets.specs.Placing.{placed};
-ghost use Rattle.listing.specs.Totals.{Counts};
-ghost use Rattle.lister.specs.Listing.{longest};
-ghost use Rattle.lister.specs.Counting.{countShown, countOf};
-ghost use Rattle.lister.specs.Posts.{begun, PartPost, CountPost, numberOf, lineShown};
+ghost use Rattle.listing.specs.Text.{longestEvent};
+ghost use Rattle.lister.specs.Listing.{text, freshRefusal, listingOf};
+ghost use Rattle.lister.specs.Counting.{occursShown, countOf};
+ghost use Rattle.lister.specs.Posts.{untaken, PartPost, CountPost, Good, eventNumber, lineShown, placedIf};
 
 // What a part of a listing took and wrote.
 pub struct Part {
@@ -28,12 +27,12 @@ pub struct Part {
     pub length: usize,
 }
 
-// The length of the longest line of an event.
+// The length of the longestEvent line of an event.
 const LONGEST: usize = 29;
 
 // Before the first call: the record but for its array, and nothing taken.
 fn begin(r: Reader) -> InPlace
-    ensures { λ x. ⌜ x ≡ begun r ⌝ }
+    ensures { λ x. ⌜ x ≡ untaken r ⌝ }
 {
     let head = r.head;
     let latest = r.latest;
@@ -50,7 +49,7 @@ fn begin(r: Reader) -> InPlace
 
 // The number of an event.
 fn number(e: Event) -> u8
-    ensures { λ r. ⌜ r ≡ numberOf e ⌝ }
+    ensures { λ r. ⌜ r ≡ eventNumber e ⌝ }
 {
     match e {
         Event::Nothing => 0,
@@ -61,7 +60,7 @@ fn number(e: Event) -> u8
 
 // Whether there is an event, as a number.
 fn raises(e: Event) -> u64
-    ensures { λ r. ⌜ (r ≡ countShown e) × (r ≤ 1) ⌝ }
+    ensures { λ r. ⌜ (r ≡ occursShown e) × (r ≤ 1) ⌝ }
 {
     match e {
         Event::Nothing => 0,
@@ -72,14 +71,14 @@ fn raises(e: Event) -> u64
 
 // Where the bytes to offer end: there are none where the room may not hold a line.
 fn offer(at: usize, n: usize, room: usize) -> usize
-    ensures { λ r. ⌜ r ≡ cond (ltb room longest) at n ⌝ }
+    ensures { λ r. ⌜ r ≡ cond (ltb room longestEvent) at n ⌝ }
 {
-    if room < LONGEST { at } else { n }
+    if room < LONGEST_EVENT { at } else { n }
 }
 
 // Writes the line of an event, if it is one, and returns its length.
-fn put_line(offset: u32, e: Event, id: u8, closed: u32, buf: &mut [u8]) -> usize
-    requires { ⌜ longest ≤ length (now buf) ⌝ }
+fn put_line(offset: Count, e: Event, id: u8, closed: Count, buf: &mut [u8]) -> usize
+    requires { ⌜ longestEvent ≤ length (now buf) ⌝ }
     ensures { λ r. ⌜ (r ≡ length (lineShown offset e id closed))
         × (now (buf .exit) ≡ placed (now (buf .entry)) 0 (lineShown offset e id closed))
         × (r ≤ length (now (buf .entry))) ⌝ }
@@ -165,7 +164,7 @@ pub fn count_events(mode: u8, s: &[u8]) -> u64
 
 // Puts bytes into the buffer, where they are to be written.
 fn put_if(write: bool, src: &[u8], buf: &mut [u8], at: usize)
-    ensures { λ _. ⌜ now (buf .exit) ≡ writtenIf write (now (buf .entry)) at (now (src .entry)) ⌝ }
+    ensures { λ _. ⌜ now (buf .exit) ≡ placedIf write (now (buf .entry)) at (now (src .entry)) ⌝ }
 {
     if !write {
         return;
@@ -176,8 +175,8 @@ fn put_if(write: bool, src: &[u8], buf: &mut [u8], at: usize)
 // Lists a slice part by part: its length, if the buffer has room for it; and where it is to be written, into the buffer.
 fn list_parts(r: Reader, s: &[u8], buf: &mut [u8], write: bool) -> Written
     requires { ⌜ Good r × (write ≡ true → length (text (view r) (now s)) ≤ length (now buf)) ⌝ }
-    ensures { λ w. ⌜ (w ≡ measured (text (view r) (now (s .entry))) (length (now (buf .entry))))
-        × (now (buf .exit) ≡ writtenIf write (now (buf .entry)) 0 (text (view r) (now (s .entry)))) ⌝ }
+    ensures { λ w. ⌜ (w ≡ writtenOf 0 (text (view r) (now (s .entry))) (now (buf .entry)))
+        × (now (buf .exit) ≡ placedIf write (now (buf .entry)) 0 (text (view r) (now (s .entry)))) ⌝ }
 {
     let mut g = r;
     let mut lines = [0u8; 4096];
@@ -216,8 +215,8 @@ fn list_parts(r: Reader, s: &[u8], buf: &mut [u8], write: bool) -> Written
 
 // Writes the listing of a slice into the buffer, or says why not. It is measured first: a buffer without room stays as it was.
 pub fn list(mode: u8, s: &[u8], buf: &mut [u8]) -> Written
-    ensures { λ x. ⌜ (x ≡ listedOf (fresh mode) (now (s .entry)) (now (buf .entry)))
-        × (now (buf .exit) ≡ filledOf (fresh mode) (now (s .entry)) (now (buf .entry))) ⌝ }
+    ensures { λ x. ⌜ (x ≡ writtenOf (freshRefusal (fresh mode)) (listingOf (fresh mode) (now (s .entry))) (now (buf .entry)))
+        × (now (buf .exit) ≡ filledOf (freshRefusal (fresh mode)) (listingOf (fresh mode) (now (s .entry))) (now (buf .entry))) ⌝ }
 {
     let f = Reader::fresh(mode);
     if f.refusal != 0 {

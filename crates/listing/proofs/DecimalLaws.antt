@@ -2,13 +2,13 @@
 use mathlib.Core.Path.{_≡_, refl, ap}
 use mathlib.Core.Bool.{Bool, true, false, cond}
 use mathlib.Core.List.{List, [], _∷_, _++_}
-use Prim.Native.Nat.{ℕ, zero, suc, _+_, _*_, _/_, _%_, _^_, _≤_, _<_}
+use Prim.Native.Nat.{ℕ, zero, suc, _+_, _-_, _*_, _/_, _%_, _^_, _≤_, _<_}
 use native.Mathlib.Nat.{pow-suc}
 use native.Mathlib.Omega.{arith}
 use borrow.Author.Tests.{lt-ltb, le-ltb, ltb-true, ltb-false}
 use lib.Dec.{ltb}
 use lib.ListN.{length, length-append}
-use Rattle.listing.specs.Text.{blank, digit, decimalIn, decimal, decimals}
+use Rattle.listing.specs.Text.{blank, digit, decimalIn, decimal, decimals, digits}
 
 -- as many divisions as the number are enough, and more change nothing
 enough : (j k n : ℕ) → n ≤ j → n ≤ k → decimalIn j n ≡ decimalIn k n
@@ -50,9 +50,9 @@ decimal-length (suc k) n h =
     by true e l = rw (decimal-small n (ltb-true n 10 e)) (omega arith)
     by false e l = omega (arith, large-length n (ltb-false n 10 e))
 
--- of a 32-bit number
-pub decimal-short : (n : ℕ) → n < 4294967296 → length (decimal n) ≤ 10
-decimal-short n h = decimal-length 9 n (omega arith)
+-- of a count
+pub decimal-short : (n : ℕ) → n < 10 ^ digits → length (decimal n) ≤ digits
+decimal-short n h = decimal-length (digits - 1) n h
 
 -- none, and one before the others
 pub decimals-nil : decimals [] ≡ []

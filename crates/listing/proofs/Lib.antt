@@ -1,4 +1,3 @@
 pub mod DecimalLaws
 pub mod LineLaws
 pub mod Vectors
-pub mod TotalLaws

@@ -1,18 +1,21 @@
--- Laws of the lines: their length, that 64 bytes hold each, and that their parts, placed one right after the other, are the line.
+-- Laws of the lines: their length, that none is longer than the longest, that their parts, placed one right after the other, are the
+-- line, and what a line comes to that was put straight into the buffer, or composed apart and delivered.
 use mathlib.Core.Path.{_≡_, refl, sym, ap, _∙_}
-use mathlib.Core.Bool.{Bool, true, false, cond}
+use mathlib.Core.Bool.{Bool, true, false}
 use mathlib.Core.List.{List, [], _∷_, _++_, append-assoc}
-use Prim.Native.Nat.{ℕ, _+_, _≤_, _<_}
+use Prim.Native.Nat.{ℕ, _+_, _^_, _≤_, _<_}
 use native.Mathlib.Nat.{zero-add}
 use native.Mathlib.Omega.{arith}
-use borrow.Author.Tests.{ltb-false}
+use borrow.Author.Tests.{ltb-true, ltb-false}
 use lib.Dec.{ltb}
 use lib.ListN.{length, take, length-append}
+use lib.Seq.{length-take-le}
 use Rattle.octets.specs.Placing.{placed}
-use Rattle.octets.proofs.PlacingLaws.{placed-more}
-use Rattle.octets.specs.Delivery.{refused, accepted}
-use Rattle.octets.proofs.DeliveryLaws.{placed-back}
-use Rattle.listing.specs.Text.{blank, newline, decimal, hexadecimal, decimals, eventLine, totalLine, writtenOf}
+use Rattle.octets.proofs.PlacingLaws.{placed-more, length-placed}
+use Rattle.octets.specs.declared.Written.{Written}
+use Rattle.octets.specs.Delivery.{accepted, writtenOf, filledOf, Counts}
+use Rattle.octets.proofs.DeliveryLaws.{placed-back, short, writes}
+use Rattle.listing.specs.Text.{blank, newline, decimal, hexadecimal, decimals, eventLine, totalLine, digits, longestEvent, longestTotal}
 use Rattle.listing.proofs.DecimalLaws.{decimal-length, decimal-short, decimals-nil, decimals-cons}
 
 -- more, right after what stands at the start
@@ -24,15 +27,30 @@ after b p s at e h =
 pub read-back : (b d t : List ℕ) (n : ℕ) → n ≡ length t → d ≡ placed b 0 t → length t ≤ length b → take n d ≡ t
 read-back b d t n e f h = (λ i. take (e i) (f i)) ∙ placed-back b t h
 
--- what is written lies within the buffer
-pub written-within : (t b : List ℕ) → writtenOf t b .length ≤ length b
-written-within t b = by (ltb (length b) (length t)) refl
-  where
-    by : (c : Bool) → ltb (length b) (length t) ≡ c → cond c (refused 13) (accepted (length t)) .length ≤ length b
-    by true e = omega arith
-    by false e = ltb-false (length b) (length t) e
+-- a text that was placed, and one that was composed apart and delivered
+pub straight : (t b b′ : List ℕ) (n : ℕ) → n ≡ length t → b′ ≡ placed b 0 t → n ≤ length b → (accepted n ≡ writtenOf 0 t b) × (b′ ≡ filledOf 0 t b)
+straight t b b′ n e f h =
+    let w = writes 0 t b refl (omega arith) in
+    (ap accepted e ∙ sym (w .0), f ∙ sym (w .1))
 
-one-more : (n : ℕ) (ns : List ℕ) → n < 4294967296 → length (decimals (n ∷ ns)) ≤ 11 + length (decimals ns)
+pub delivered : (t z d b : List ℕ) (n : ℕ) → n ≡ length t → d ≡ placed z 0 t → n ≤ length z
+    → {w : Written} {b′ : List ℕ} → (w ≡ writtenOf 0 (take n d) b) × (b′ ≡ filledOf 0 (take n d) b) → (w ≡ writtenOf 0 t b) × (b′ ≡ filledOf 0 t b)
+delivered t z d b n e f h q =
+    let r = read-back z d t n e f (omega arith) in
+    (q .0 ∙ ap (λ (x : List ℕ). writtenOf 0 x b) r, q .1 ∙ ap (λ (x : List ℕ). filledOf 0 x b) r)
+
+-- what is written lies within the buffer
+pub counted : (t b : List ℕ) (w : Written) (b′ : List ℕ) → w ≡ writtenOf 0 t b → b′ ≡ filledOf 0 t b → Counts (w .length) b′
+counted t b w b′ e f = let h = by (ltb (length b) (length t)) refl in (h, sym (length-take-le (w .length) b′ h))
+  where
+    by : (c : Bool) → ltb (length b) (length t) ≡ c → w .length ≤ length b′
+    by true k = omega (arith, ap (λ (v : Written). v .length) (e ∙ short 0 t b refl (ltb-true (length b) (length t) k) .0))
+    by false k =
+        let h = ltb-false (length b) (length t) k in
+        let p = writes 0 t b refl h in
+        omega (arith, h, ap (λ (v : Written). v .length) (e ∙ p .0), ap length (f ∙ p .1), length-placed b 0 t)
+
+one-more : (n : ℕ) (ns : List ℕ) → n < 10 ^ digits → length (decimals (n ∷ ns)) ≤ 1 + digits + length (decimals ns)
 one-more n ns h =
     omega (arith, ap length (decimals-cons n ns), length-append (blank ∷ decimal n) (decimals ns), decimal-short n h)
 
@@ -53,11 +71,8 @@ module _ (offset id number closed : ℕ) where
   unfolding eventLine
   event-length = simp length-append (omega arith)
 
-  pub two-short : number < 4294967296 → closed < 4294967296 → length (decimals two) ≤ 22
-  two-short hn hc = omega (arith, one-more number (closed ∷ []) hn, one-more closed [] hc, ap length decimals-nil)
-
   -- of a byte as the number
-  pub event-longest : offset < 4294967296 → number < 256 → closed < 4294967296 → length (eventLine offset id number closed) ≤ 29
+  pub event-longest : offset < 10 ^ digits → number < 256 → closed < 10 ^ digits → length (eventLine offset id number closed) ≤ longestEvent
   event-longest ho hn hc =
       omega (
         arith,
@@ -91,11 +106,12 @@ module _ (fed accepted refused outside pending : ℕ) where
   unfolding totalLine
   total-length = simp length-append (omega arith)
 
-  pub five-short : fed < 4294967296 → accepted < 4294967296 → refused < 4294967296 → outside < 4294967296 → pending < 4294967296
-      → length (decimals five) ≤ 55
-  five-short hf ha hr ho hp =
+  pub total-longest : fed < 10 ^ digits → accepted < 10 ^ digits → refused < 10 ^ digits → outside < 10 ^ digits → pending < 10 ^ digits
+      → length (totalLine fed accepted refused outside pending) ≤ longestTotal
+  total-longest hf ha hr ho hp =
       omega (
         arith,
+        total-length,
         one-more fed (accepted ∷ refused ∷ outside ∷ pending ∷ []) hf,
         one-more accepted (refused ∷ outside ∷ pending ∷ []) ha,
         one-more refused (outside ∷ pending ∷ []) hr,

@@ -1,11 +1,9 @@
--- Document 01, "Proved cases": the lines that listoff and liston print, in ASCII, and what writing a text into a lent buffer answers.
+-- Document 01, "Proved cases": the lines that listoff and liston print, in ASCII.
 use mathlib.Core.Bool.{cond}
 use mathlib.Core.List.{List, [], _∷_, _++_}
-use Prim.Native.Nat.{ℕ, zero, suc, _+_, _/_, _%_}
+use Prim.Native.Nat.{ℕ, zero, suc, _+_, _*_, _/_, _%_}
 use lib.Dec.{ltb}
-use lib.ListN.{length}
-use Rattle.octets.specs.declared.Written.{Written}
-use Rattle.octets.specs.Delivery.{refused, accepted}
+use Rattle.line.specs.Record.{Rec}
 
 abbrev pub blank : ℕ
 blank = 32
@@ -48,6 +46,17 @@ unfoldable pub totalLine : ℕ → ℕ → ℕ → ℕ → ℕ → List ℕ
 totalLine fed accepted refused outside pending =
     (116 ∷ 111 ∷ 116 ∷ 97 ∷ 108 ∷ []) ++ (decimals (fed ∷ accepted ∷ refused ∷ outside ∷ pending ∷ []) ++ (newline ∷ []))
 
--- the answer for a text t and a buffer b: 13 of a buffer too short, else the text's length. The buffer afterwards is `placed b 0 t`
-abbrev pub writtenOf : List ℕ → List ℕ → Written
-writtenOf t b = cond (ltb (length b) (length t)) (refused 13) (accepted (length t))
+-- of a record
+abbrev pub totalOf : Rec → List ℕ
+totalOf r = totalLine (r .fed) (r .accepted) (r .refused) (r .outside) (r .pending)
+
+-- the digits of the largest count
+abbrev pub digits : ℕ
+digits = 10
+
+-- the longest lines: of an event, whose number has three digits, and of the total
+abbrev pub longestEvent : ℕ
+longestEvent = 2 * digits + 9
+
+abbrev pub longestTotal : ℕ
+longestTotal = 5 * digits + 11

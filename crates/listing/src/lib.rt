@@ -1,19 +1,26 @@
-// The lines of a listing, written into a buffer that the caller lends: one for an event, and the total.
-// The last line of a listing: the five counts of a reader.
+// The text of a listing: the line of an event and the line of the total, written into a buffer that the caller lends.
 use octets::Written;
+use record::Count;
 use record::Reader;
+ghost use mathlib.Core.List.{_∷_};
 ghost use mathlib.Core.Path.{_≡_};
-ghost use Prim.Native.Nat.{_≤_, _+_, _<_};
+ghost use Prim.Native.Nat.{_+_, _<_, _≤_};
 ghost use lib.ListN.{length};
 ghost use Rattle.octets.specs.Placing.{placed};
+ghost use Rattle.octets.specs.Delivery.{writtenOf, filledOf, Counts};
 ghost use Rattle.record.specs.View.{view};
-ghost use Rattle.listing.specs.Text.{writtenOf};
-ghost use Rattle.listing.specs.Totals.{totalOf, Counts};
-ghost use mathlib.Core.List.{_∷_};
-ghost use Rattle.listing.specs.Text.{blank, decimal, hexDigit, decimals, eventLine, totalLine, writtenOf};
+ghost use Rattle.listing.specs.Text.{blank, decimal, hexDigit, decimals, eventLine, totalLine, totalOf, longestEvent, longestTotal};
+
+// The digits of the largest count.
+const DIGITS: usize = 10;
+
+// The lengths of the longest lines: of an event, and of the total.
+pub const LONGEST_EVENT: usize = 2 * DIGITS + 9;
+
+pub const LONGEST_TOTAL: usize = 5 * DIGITS + 11;
 
 // Puts a number in decimal at a place and returns the place after it.
-fn put_decimal(n: u32, buf: &mut [u8], at: usize) -> usize
+fn put_decimal(n: Count, buf: &mut [u8], at: usize) -> usize
     requires { ⌜ at + length (decimal n) ≤ length (now buf) ⌝ }
     ensures { λ r. ⌜ (r ≡ at + length (decimal n)) × (now (buf .exit) ≡ placed (now (buf .entry)) at (decimal n)) ⌝ }
 {
@@ -27,7 +34,7 @@ fn put_decimal(n: u32, buf: &mut [u8], at: usize) -> usize
 }
 
 // Puts a blank and a number, and returns the place after them.
-fn put_next(n: u32, buf: &mut [u8], at: usize) -> usize
+fn put_next(n: Count, buf: &mut [u8], at: usize) -> usize
     requires { ⌜ at + length (blank ∷ decimal n) ≤ length (now buf) ⌝ }
     ensures { λ r. ⌜ (r ≡ at + length (blank ∷ decimal n)) × (now (buf .exit) ≡ placed (now (buf .entry)) at (blank ∷ decimal n)) ⌝ }
 {
@@ -36,7 +43,7 @@ fn put_next(n: u32, buf: &mut [u8], at: usize) -> usize
 }
 
 // Puts numbers, a blank before each, and returns the place after them.
-fn put_decimals(numbers: &[u32], buf: &mut [u8], at: usize) -> usize
+fn put_decimals(numbers: &[Count], buf: &mut [u8], at: usize) -> usize
     requires { ⌜ at + length (decimals (now numbers)) ≤ length (now buf) ⌝ }
     ensures { λ r. ⌜ (r ≡ at + length (decimals (now (numbers .entry))))
         × (now (buf .exit) ≡ placed (now (buf .entry)) at (decimals (now (numbers .entry)))) ⌝ }
@@ -61,16 +68,17 @@ fn hex_digit(n: u8) -> u8
     b'A' - 10 + n
 }
 
-// Puts an event's line at the start and returns its length. No line is longer than 64 bytes.
-fn put_event(offset: u32, id: u8, number: u8, closed: u32, line: &mut [u8]) -> usize
-    requires { ⌜ 64 ≤ length (now line) ⌝ }
+// Puts an event's line at the start and returns its length.
+fn put_event(offset: Count, id: u8, number: u8, closed: Count, line: &mut [u8]) -> usize
+    requires { ⌜ longestEvent ≤ length (now line) ⌝ }
     ensures { λ r. ⌜ (r ≡ length (eventLine offset id number closed))
-        × (now (line .exit) ≡ placed (now (line .entry)) 0 (eventLine offset id number closed)) ⌝ }
+        × (now (line .exit) ≡ placed (now (line .entry)) 0 (eventLine offset id number closed))
+        × (r ≤ longestEvent) ⌝ }
 {
     let past_offset = put_decimal(offset, line, 0);
     let name = [b' ', hex_digit(id / 16), hex_digit(id % 16)];
     octets::put(&name, line, past_offset);
-    let numbers = [number as u32, closed];
+    let numbers = [number as Count, closed];
     let past_numbers = put_decimals(&numbers, line, past_offset + 3);
     let end = [b'\n'];
     octets::put(&end, line, past_numbers);
@@ -79,16 +87,17 @@ fn put_event(offset: u32, id: u8, number: u8, closed: u32, line: &mut [u8]) -> u
 
 // Puts the line of the five counts at the start and returns its length.
 fn put_total(
-    fed: u32,
-    accepted: u32,
-    refused: u32,
-    outside: u32,
-    pending: u32,
+    fed: Count,
+    accepted: Count,
+    refused: Count,
+    outside: Count,
+    pending: Count,
     line: &mut [u8],
 ) -> usize
-    requires { ⌜ 64 ≤ length (now line) ⌝ }
+    requires { ⌜ longestTotal ≤ length (now line) ⌝ }
     ensures { λ r. ⌜ (r ≡ length (totalLine fed accepted refused outside pending))
-        × (now (line .exit) ≡ placed (now (line .entry)) 0 (totalLine fed accepted refused outside pending)) ⌝ }
+        × (now (line .exit) ≡ placed (now (line .entry)) 0 (totalLine fed accepted refused outside pending))
+        × (r ≤ longestTotal) ⌝ }
 {
     octets::put(b"total", line, 0);
     let numbers = [fed, accepted, refused, outside, pending];
@@ -98,55 +107,51 @@ fn put_total(
     past_numbers + 1
 }
 
-// Copies a text to the buffer's start, where it is long enough.
-fn deliver(text: &[u8], buf: &mut [u8]) -> Written
-    ensures { λ r. ⌜ (r ≡ writtenOf (now (text .entry)) (now (buf .entry)))
-        × (now (buf .exit) ≡ placed (now (buf .entry)) 0 (now (text .entry))) ⌝ }
+// Writes the line of an event: the offset of the byte that raised it, its identifier, its number, 0 of a message, and the bytes closed.
+pub fn event_line(offset: Count, id: u8, number: u8, closed: Count, buf: &mut [u8]) -> Written
+    ensures { λ r. ⌜ (r ≡ writtenOf 0 (eventLine offset id number closed) (now (buf .entry)))
+        × (now (buf .exit) ≡ filledOf 0 (eventLine offset id number closed) (now (buf .entry))) ⌝ }
+    ensures { λ r. ⌜ length (eventLine offset id number closed) ≤ longestEvent ⌝ }
 {
-    if buf.len() < text.len() {
+    if LONGEST_EVENT <= buf.len() {
         return Written {
-            refusal: 13,
-            length: 0,
+            refusal: 0,
+            length: put_event(offset, id, number, closed, buf),
         };
     }
-    octets::put(text, buf, 0);
-    Written {
-        refusal: 0,
-        length: text.len(),
-    }
-}
-
-// Writes the line of an event: the offset of the byte that raised it, its identifier, its number, 0 of a message, and the bytes closed.
-pub fn event_line(offset: u32, id: u8, number: u8, closed: u32, buf: &mut [u8]) -> Written
-    ensures { λ r. ⌜ (r ≡ writtenOf (eventLine offset id number closed) (now (buf .entry)))
-        × (now (buf .exit) ≡ placed (now (buf .entry)) 0 (eventLine offset id number closed)) ⌝ }
-{
-    let mut line = [0u8; 64];
+    let mut line = [0u8; LONGEST_EVENT];
     let n = put_event(offset, id, number, closed, &mut line);
-    deliver(&line[..n], buf)
+    octets::deliver(0, &line[..n], buf)
 }
 
 // Writes the line of the five counts.
 pub fn total_line(
-    fed: u32,
-    accepted: u32,
-    refused: u32,
-    outside: u32,
-    pending: u32,
+    fed: Count,
+    accepted: Count,
+    refused: Count,
+    outside: Count,
+    pending: Count,
     buf: &mut [u8],
 ) -> Written
-    ensures { λ r. ⌜ (r ≡ writtenOf (totalLine fed accepted refused outside pending) (now (buf .entry)))
-        × (now (buf .exit) ≡ placed (now (buf .entry)) 0 (totalLine fed accepted refused outside pending)) ⌝ }
+    ensures { λ r. ⌜ (r ≡ writtenOf 0 (totalLine fed accepted refused outside pending) (now (buf .entry)))
+        × (now (buf .exit) ≡ filledOf 0 (totalLine fed accepted refused outside pending) (now (buf .entry))) ⌝ }
+    ensures { λ r. ⌜ length (totalLine fed accepted refused outside pending) ≤ longestTotal ⌝ }
 {
-    let mut line = [0u8; 64];
+    if LONGEST_TOTAL <= buf.len() {
+        return Written {
+            refusal: 0,
+            length: put_total(fed, accepted, refused, outside, pending, buf),
+        };
+    }
+    let mut line = [0u8; LONGEST_TOTAL];
     let n = put_total(fed, accepted, refused, outside, pending, &mut line);
-    deliver(&line[..n], buf)
+    octets::deliver(0, &line[..n], buf)
 }
 
 // Writes the line of a reader's five counts.
 pub fn list_total(r: Reader, buf: &mut [u8]) -> Written
-    ensures { λ x. ⌜ (x ≡ writtenOf (totalOf (view r)) (now (buf .entry))) × (now (buf .exit) ≡ placed (now (buf .entry)) 0 (totalOf (view r))) ⌝ }
-    ensures { λ x. ⌜ Counts (x .length) (now (buf .exit)) × (length (totalOf (view r)) ≤ 64) ⌝ }
+    ensures { λ x. ⌜ (x ≡ writtenOf 0 (totalOf (view r)) (now (buf .entry))) × (now (buf .exit) ≡ filledOf 0 (totalOf (view r)) (now (buf .entry))) ⌝ }
+    ensures { λ x. ⌜ Counts (x .length) (now (buf .exit)) × (length (totalOf (view r)) ≤ longestTotal) ⌝ }
 {
     let h = r.head;
     total_line(h.fed, h.accepted, h.refused, h.outside, h.pending, buf)

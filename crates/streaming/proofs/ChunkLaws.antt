@@ -9,9 +9,10 @@ use lib.Seq.{drop-drop}
 use Rattle.octets.specs.Placing.{placed}
 use Rattle.record.specs.declared.Reader.{Reader}
 use Rattle.record.specs.View.{view}
-use Rattle.listing.specs.Totals.{Counts}
+use Rattle.octets.specs.Delivery.{Counts}
+use Rattle.listing.specs.Text.{longestEvent}
 use Rattle.lister.specs.declared.Part.{Part}
-use Rattle.lister.specs.Listing.{longest, piece}
+use Rattle.lister.specs.Listing.{piece}
 use Rattle.lister.specs.Posts.{PartPost, Good}
 use Rattle.lister.proofs.PartLaws.{rest-of, taken-of-rest, part-is, part-good}
 use Rattle.streaming.specs.Through.{Through, until, through}
@@ -25,7 +26,7 @@ pub record Went (g : Reader) (s : List ℕ) (at : ℕ) (x : Part) : Type 0 where
   -- where it took nothing, nothing more can be listed
   pub end : x .taken ≡ 0 → until (x .refusal) (view (x .reader)) ≡ through (view g) (drop at s)
 
-pub went : (g : Reader) (s : List ℕ) (at : ℕ) (b : List ℕ) (x : Part) (b′ : List ℕ) → Good g → longest ≤ length b → at ≤ length s
+pub went : (g : Reader) (s : List ℕ) (at : ℕ) (b : List ℕ) (x : Part) (b′ : List ℕ) → Good g → longestEvent ≤ length b → at ≤ length s
     → PartPost g (take (length s - at) (drop at s)) b x b′ → x .taken ≤ length (take (length s - at) (drop at s)) → Counts (x .length) b′
     → Went g s at x
 went g s at b x b′ h k w q f c =
@@ -36,7 +37,7 @@ went g s at b x b′ h k w q f c =
           through-piece d (length b) (view g)
           ∙ sym (λ i. through (is .0 i) (drop (is .2 i) d))
           ∙ ap (through (view (x .reader))) (drop-drop (x .taken) at s);
-      end = λ z. (λ i. until (is .1 i) (is .0 i)) ∙ piece-last d (length b) (view g) (le-ltb (length b) longest k) (sym (is .2) ∙ z);
+      end = λ z. (λ i. until (is .1 i) (is .0 i)) ∙ piece-last d (length b) (view g) (le-ltb (length b) longestEvent k) (sym (is .2) ∙ z);
     }
   where
     d : List ℕ

@@ -15,7 +15,7 @@ use Rattle.line.specs.Record.{Rec, Fresh, limit, fresh}
 use Rattle.line.specs.Record.Fresh.{made, refused}
 use Rattle.record.specs.declared.Reader.{Reader}
 use Rattle.record.specs.View.{view}
-use Rattle.listing.specs.Totals.{totalOf}
+use Rattle.listing.specs.Text.{totalOf}
 use Rattle.lister.specs.Posts.{Good}
 use Rattle.streaming.specs.declared.Chunk.{Chunk}
 use Rattle.streaming.specs.declared.Reads.{Reads}

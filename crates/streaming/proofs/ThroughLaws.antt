@@ -8,9 +8,9 @@ use borrow.Author.Tests.{ltb-true}
 use lib.Dec.{ltb}
 use lib.ListN.{length, drop}
 use Rattle.line.specs.Record.{Rec, limit, eventOf, stepped}
-use Rattle.listing.specs.Totals.{totalOf}
-use Rattle.lister.specs.Listing.{lineOf, text, longest, Piece, piece}
-use Rattle.lister.proofs.PieceLaws.{pieced}
+use Rattle.listing.specs.Text.{totalOf, longestEvent}
+use Rattle.lister.specs.Listing.{lineOf, text, piece}
+use Rattle.lister.proofs.PieceLaws.{piece-by}
 use Rattle.streaming.specs.Through.{Through, until, through}
 
 -- one byte, by whether it can be counted; x is what the others come to
@@ -20,39 +20,17 @@ led r x t = cond t x (until 3 r)
 -- a piece, and then what it leaves
 pub through-piece : (l : List ℕ) (room : ℕ) (r : Rec)
     → through r l ≡ through (piece room r l .after) (drop (piece room r l .taken) l)
-through-piece [] room r = refl
-through-piece (b ∷ bs) room r =
-    by (ltb room longest) (ltb (r .fed) limit) refl (through-piece bs (room - length (lineOf (r .fed) (eventOf r b))) (stepped r b))
-  where
-    s : List ℕ
-    s = lineOf (r .fed) (eventOf r b)
-
-    p : Piece
-    p = piece (room - length s) (stepped r b) bs
-
-    by : (u t : Bool) → ltb (r .fed) limit ≡ t → through (stepped r b) bs ≡ through (p .after) (drop (p .taken) bs)
-        → through r (b ∷ bs) ≡ through (pieced r s p u t .after) (drop (pieced r s p u t .taken) (b ∷ bs))
-    by true t q ih = refl
-    by false true q ih = ap (led r (through (stepped r b) bs)) q ∙ ih
-    by false false q ih = refl
+through-piece =
+    piece-by (λ room r l p. through r l ≡ through (p .after) (drop (p .taken) l)) (λ room r. refl) (λ room r l q. refl) (λ room r b bs k. refl)
+    (λ room r b bs p k h. ap (led r (through (stepped r b) bs)) k ∙ h)
 
 -- a piece that takes nothing, though there is room, stands at the end or at a byte that can't be counted
-pub piece-last : (l : List ℕ) (room : ℕ) (r : Rec) → ltb room longest ≡ false → piece room r l .taken ≡ 0
+pub piece-last : (l : List ℕ) (room : ℕ) (r : Rec) → ltb room longestEvent ≡ false → piece room r l .taken ≡ 0
     → until (piece room r l .refusal) (piece room r l .after) ≡ through r l
-piece-last [] room r q h = refl
-piece-last (b ∷ bs) room r q h = by (ltb room longest) (ltb (r .fed) limit) q refl h
-  where
-    s : List ℕ
-    s = lineOf (r .fed) (eventOf r b)
-
-    p : Piece
-    p = piece (room - length s) (stepped r b) bs
-
-    by : (u t : Bool) → u ≡ false → ltb (r .fed) limit ≡ t → pieced r s p u t .taken ≡ 0
-        → until (pieced r s p u t .refusal) (pieced r s p u t .after) ≡ through r (b ∷ bs)
-    by true t e k z = absurd (let g : _≡_ {A = ℕ} 0 1 = cc in omega arith)
-    by false true e k z = absurd (omega arith)
-    by false false e k z = ap (led r (through (stepped r b) bs)) (sym k)
+piece-last =
+    piece-by (λ room r l p. ltb room longestEvent ≡ false → p .taken ≡ 0 → until (p .refusal) (p .after) ≡ through r l) (λ room r q h. refl)
+    (λ room r l t q h. absurd (let g : _≡_ {A = ℕ} 0 1 = cc in omega arith))
+    (λ room r b bs k q h. ap (led r (through (stepped r b) bs)) (sym k)) (λ room r b bs p k i q h. absurd (omega arith))
 
 -- more bytes, where the first were all counted
 pub through-more : (a b : List ℕ) (r : Rec) → through r a .refusal ≡ 0 → through r (a ++ b) ≡ through (through r a .after) b

@@ -11,7 +11,7 @@ use Rattle.line.specs.Record.Fresh.{made}
 use Rattle.record.specs.declared.Reader.{Reader}
 use Rattle.record.specs.View.{view}
 use Rattle.record.specs.Posts.{blank}
-use Rattle.listing.specs.Totals.{totalOf}
+use Rattle.listing.specs.Text.{totalOf, longestTotal}
 use Rattle.lister.specs.Posts.{Good}
 use Rattle.streaming.specs.declared.Chunk.{Chunk}
 use Rattle.streaming.specs.declared.Reads.{Reads}
@@ -55,7 +55,7 @@ pub record InputPost (r : Rec) (e : Ended) : Type 0 where
 
 -- nothing is read
 abbrev pub unreadOf : Reader → ℕ → Ended
-unreadOf r v = record { reader = r; refusal = v; written = true; read = 0; last = pos 0; total = replicate 64 0; length = 0 }
+unreadOf r v = record { reader = r; refusal = v; written = true; read = 0; last = pos 0; total = replicate longestTotal 0; length = 0 }
 
 -- by a fresh reader; a mode that has none is refused by 1
 pub record ListedPost (m : ℕ) (e : Ended) : Type 0 where

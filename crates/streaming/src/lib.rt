@@ -1,4 +1,5 @@
 // Lists standard input as it comes in: what the two programs do. The lines of each read are written before the next.
+use listing::LONGEST_TOTAL;
 use record::Reader;
 ghost use mathlib.Core.Bool.{true};
 ghost use mathlib.Core.Path.{_≡_};
@@ -6,7 +7,7 @@ ghost use Prim.Native.Nat.{_≤_};
 ghost use lib.ListN.{length};
 ghost use Rattle.libc.specs.Io.{Moved};
 ghost use Rattle.record.specs.View.{view};
-ghost use Rattle.lister.specs.Listing.{longest};
+ghost use Rattle.listing.specs.Text.{longestEvent};
 ghost use Rattle.lister.specs.Posts.{Good};
 ghost use Rattle.streaming.specs.Posts.{ChunkPost, ReadsPost, TotalPost, ListedPost, unreadOf};
 
@@ -31,13 +32,13 @@ pub struct Ended {
     pub written: bool,
     pub read: usize,
     pub last: isize,
-    pub total: [u8; 64],
+    pub total: [u8; LONGEST_TOTAL],
     pub length: usize,
 }
 
 // Prints the lines of a chunk, as many at a time as the buffer has room for.
 fn list_chunk(r: Reader, s: &[u8], lines: &mut [u8]) -> Chunk
-    requires { ⌜ Good r × (longest ≤ length (now lines)) ⌝ }
+    requires { ⌜ Good r × (longestEvent ≤ length (now lines)) ⌝ }
     ensures { λ x. ⌜ ChunkPost r (now (s .entry)) x ⌝ }
 {
     let mut g = r;
@@ -158,7 +159,7 @@ fn print_total(x: Reads) -> Ended
 {
     let c = x.chunk;
     let r = c.reader;
-    let mut total = [0u8; 64];
+    let mut total = [0u8; LONGEST_TOTAL];
     let w = listing::list_total(r, &mut total);
     let n = w.length;
     let written = write_on(c.written, &total[..n]);
@@ -178,7 +179,7 @@ fn print_total(x: Reads) -> Ended
 fn unread(r: Reader, refusal: u8) -> Ended
     ensures { λ e. ⌜ e ≡ unreadOf r refusal ⌝ }
 {
-    let total = [0u8; 64];
+    let total = [0u8; LONGEST_TOTAL];
     Ended {
         reader: r,
         refusal: refusal,

@@ -1,21 +1,24 @@
 -- `list` meets its contract: refused as the fresh reader is, measured, and written where it fits.
 use mathlib.Core.Bool.{true, false}
-use mathlib.Core.List.{List}
+use mathlib.Core.List.{List, []}
 use mathlib.Core.Path.{_≡_, refl, sym, ap, _∙_, subst⁻¹}
 use Prim.Native.Nat.{ℕ, _≤_}
 use native.Mathlib.Omega.{arith}
 use borrow.Author.Needs.{needs}
 use lib.ListN.{length}
 use Rattle.octets.specs.Placing.{placed}
-use Rattle.octets.proofs.PlacingLaws.{placed-out}
-use Rattle.octets.specs.Delivery.{refused}
+use Rattle.octets.specs.declared.Written.{Written}
+use Rattle.octets.specs.Delivery.{refused, writtenOf}
+use Rattle.octets.proofs.DeliveryLaws.{refuses, refused-none, writes, written-judged}
 use Rattle.record.specs.View.{view}
 use Rattle.lister.specs.Listing.{text}
 use Rattle.lister.proofs.FreshLaws.{fresh-refused, fresh-good}
-use Rattle.lister.specs.WholePosts.{measured}
-use Rattle.lister.proofs.Parts.{measured-over, measured-fits}
 use Rattle.lister.proofs.list.Statement.{statement}
 use Rattle.lister.proofs.list.Tie as tie
+
+-- what was measured and is not refused has room
+fits : (t b : List ℕ) (w : Written) → w ≡ writtenOf 0 t b → w .refusal ≡ 0 → length t ≤ length b
+fits t b w e z = written-judged 0 t b (sym (ap (λ (v : Written). v .refusal) e) ∙ z) .1
 
 fresh-requires : tie.Need-fresh-requires
 fresh-requires c κs = tt
@@ -24,7 +27,8 @@ returns : tie.Need-returns
 returns c =
     let f = c .before .before in
     let e = fresh-refused _ (f .fresh .result) (f .fresh .ensures) (c .if1 .taken) in
-    rw (e .0) (ap refused (e .1), refl)
+    let r = refuses 1 [] (f .before .before .before .args .buf .now) (omega arith) in
+    rw (e .0) (ap refused (e .1) ∙ sym (r .0), sym (r .1))
 
 list-parts-requires : tie.Need-list-parts-requires
 list-parts-requires c κs =
@@ -46,8 +50,8 @@ returns-2 c =
     let e = fresh-good (a .mode) (f .fresh .result) (f .fresh .ensures) (i .if1 .left) in
     let t = text (view (f .fresh .result .reader)) (a .s .now) in
     let q = m .list-parts .ensures in
-    let over = measured-over (m .list-parts .result) t (length (a .buf .now)) (q .0) (c .if2 .taken) in
-    rw (e .0) (q .0, q .1 ∙ sym (placed-out (a .buf .now) 0 t (omega arith)))
+    let none = refused-none 0 t (a .buf .now) (λ z. c .if2 .taken (ap (λ (w : Written). w .refusal) (q .0) ∙ z)) in
+    rw (e .0) (q .0, q .1 ∙ sym (none .1))
 
 list-parts-requires-2 : tie.Need-list-parts-requires-2
 list-parts-requires-2 c κs =
@@ -61,7 +65,7 @@ list-parts-requires-2 c κs =
       fresh-good (a .mode) (f .fresh .result) (f .fresh .ensures) (i .if1 .left) .1,
       λ z.
           subst⁻¹ (λ (y : List ℕ). length t ≤ length y) (q .1)
-          (measured-fits (m .list-parts .result) t (length (a .buf .now)) (q .0) (k .if2 .left)),
+          (fits t (a .buf .now) (m .list-parts .result) (q .0) (k .if2 .left)),
     )
 
 same-length-2 : tie.Need-same-length-2
@@ -78,7 +82,9 @@ returns-3 c =
     let t = text (view (f .fresh .result .reader)) (a .s .now) in
     let same = m .list-parts .ensures .1 in
     let q = v .list-parts2 .ensures in
-    rw (e .0) (q .0 ∙ ap (λ (y : List ℕ). measured t (length y)) same, q .1 ∙ ap (λ (y : List ℕ). placed y 0 t) same)
+    let k = fits t (a .buf .now) (m .list-parts .result) (m .list-parts .ensures .0) (v .before .before .if2 .left) in (
+    rw (e .0) (q .0 ∙ ap (writtenOf 0 t) same, q .1 ∙ ap (λ (y : List ℕ). placed y 0 t) same ∙ sym (writes 0 t (a .buf .now) refl k .1))
+    )
 
 pub list-spec : {M : Type 1} → statement M
 list-spec =

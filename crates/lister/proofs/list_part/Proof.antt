@@ -10,10 +10,10 @@ use Rattle.record.specs.View.{recordOf}
 use Rattle.record.specs.Posts.{FeedPost, InPlacePost, fedOf}
 use Rattle.record.specs.declared.InPlace.{InPlace}
 use Rattle.reader.proofs.Giving.{feeds}
-use Rattle.lister.specs.Listing.{longest}
+use Rattle.listing.specs.Text.{longestEvent}
 use Rattle.lister.specs.Posts.{PartPost}
 use Rattle.lister.proofs.FeedLaws.{lineFrom, offered}
-use Rattle.lister.proofs.Turns.{Turn, begun, part-offered, offer-within, part-placed, turn-within, turn-room, turn-fed, turn-more, turn-last}
+use Rattle.lister.proofs.Turns.{Turn, turn-none, part-offered, offer-within, part-placed, turn-within, turn-room, turn-fed, turn-more, turn-last}
 use Rattle.lister.proofs.list_part.Statement.{statement}
 use Rattle.lister.proofs.list_part.Tie as tie
 
@@ -75,7 +75,7 @@ within c =
     turn-within (f .before .before .before .before .loop .inv .0) (fedOf (f .feed-in-place .result) (f .feed-in-place .last .1 .1 .0)) (fed f)
 
 line-room : (c : tie.Else1 Inv-loop μ-loop)
-    → let p = c .before .before .before .before .before .before in longest ≤ length (p .loop .buf) - p .loop .to
+    → let p = c .before .before .before .before .before .before in longestEvent ≤ length (p .loop .buf) - p .loop .to
 line-room c =
     let f = c .before .before in
     turn-room (f .before .before .before .before .loop .inv .0) (fedOf (f .feed-in-place .result) (f .feed-in-place .last .1 .1 .0)) (fed f) (some c)
@@ -88,7 +88,7 @@ begin-requires : tie.Need-begin-requires Inv-loop μ-loop
 begin-requires c κs = search needs
 
 loop-holds : tie.Need-loop-holds Inv-loop μ-loop
-loop-holds c = (begun _ _ _, start-whole (c .before .before .before .before))
+loop-holds c = (turn-none _ _ _, start-whole (c .before .before .before .before))
 
 sub-offer : tie.Need-sub-offer Inv-loop μ-loop
 sub-offer c = c .loop .inv .0 .room

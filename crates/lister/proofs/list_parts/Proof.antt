@@ -1,20 +1,22 @@
--- `list_parts` meets its contract. The loop's invariant is `Parts`; each turn takes a byte or is the last.
+-- `list_parts` meets its contract. The loop's invariant is `Underway`; each turn takes a byte or is the last.
 use mathlib.Core.Path.{_≡_, refl, sym, ap, _∙_}
 use Prim.Native.Nat.{_+_, _-_, _^_, _≤_, _<_}
 use native.Mathlib.Omega.{arith}
 use borrow.Author.Needs.{needs}
 use lib.ListN.{length, take}
+use Rattle.octets.specs.Delivery.{accepted}
+use Rattle.octets.proofs.DeliveryLaws.{short, writes}
 use Rattle.record.specs.View.{view}
-use Rattle.listing.specs.Totals.{totalOf}
-use Rattle.lister.specs.Listing.{text, longest}
+use Rattle.listing.specs.Text.{totalOf, longestEvent}
+use Rattle.lister.specs.Listing.{text}
 use Rattle.lister.proofs.PartLaws.{Listed, called, total-whole}
-use Rattle.lister.specs.WholePosts.{writtenIf}
-use Rattle.lister.proofs.Parts.{Parts, too-long, fits-whole, over-still, total-rest, total-over, total-written, part-over, part-next}
+use Rattle.lister.specs.Posts.{placedIf}
+use Rattle.lister.proofs.Parts.{Underway, over-still, total-rest, total-over, total-written, part-over, part-next}
 use Rattle.lister.proofs.list_parts.Statement.{statement}
 use Rattle.lister.proofs.list_parts.Tie as tie
 
 abbrev Inv-loop : tie.InvT-loop
-Inv-loop s buf₀ write g₀ lines₀ at₀ to₀ buf g lines at to = Parts write (text (view g₀) s) s buf₀ buf g lines at to
+Inv-loop s buf₀ write g₀ lines₀ at₀ to₀ buf g lines at to = Underway write (text (view g₀) s) s buf₀ buf g lines at to
 
 abbrev μ-loop : tie.MeasureT-loop
 μ-loop s buf₀ write g₀ lines₀ at₀ to₀ buf g lines at to = length s - at
@@ -33,7 +35,7 @@ listed : (c : tie.After-list-part Inv-loop μ-loop)
 listed c =
     let l = c .before .before .before in
     let w = l .loop .inv in
-    let k : longest ≤ length (l .loop .lines) = omega (arith, w .long) in
+    let k : longestEvent ≤ length (l .loop .lines) = omega (arith, w .long) in
     let e = c .list-part .ensures in
     called (l .loop .g) (l .before .before .before .args .s .now) (l .loop .at) (l .loop .lines) (c .list-part .result) (c .list-part .last .1 .1 .0)
     (w .good) k (w .within) (e .0) (e .1 .0) (e .1 .1)
@@ -47,7 +49,7 @@ turned : (c : tie.After-put-if Inv-loop μ-loop)
     let l = p .before .before .before in
     let a = l .before .before .before .args in
     let x = p .list-part .result in
-    Parts (a .write) (text (view (a .r)) (a .s .now)) (a .s .now) (a .buf .now) (c .put-if .last .1 .1 .0) (x .reader) (p .list-part .last .1 .1 .0)
+    Underway (a .write) (text (view (a .r)) (a .s .now)) (a .s .now) (a .buf .now) (c .put-if .last .1 .1 .0) (x .reader) (p .list-part .last .1 .1 .0)
     (l .loop .at + x .taken) (l .loop .to + x .length)
 turned c =
     let i = c .before .before .before in
@@ -121,7 +123,7 @@ returns c =
     let l = p .before .before .before in
     let a = l .before .before .before .args in
     let over = part-over (l .loop .inv) (listed p) (c .if1 .taken) in
-    (too-long (text (view (a .r)) (a .s .now)) (length (a .buf .now)) over, over-still (l .loop .inv) over)
+    (sym (short 0 (text (view (a .r)) (a .s .now)) (a .buf .now) refl over .0), over-still (l .loop .inv) over)
 
 array-share-prefix-lines : tie.Need-array-share-prefix-lines Inv-loop μ-loop
 array-share-prefix-lines c = let p = c .before .before in omega (arith, p .list-part .ensures .1 .1 .0, long p)
@@ -165,7 +167,7 @@ returns-2 c =
     let a = p .before .before .before .before .before .before .args in
     let total = totalOf (view (p .list-part .result .reader)) in
     let over = total-over (turned u) total (listed p .end (i .if2 .taken)) (omega (arith, last t .1, c .if3 .taken)) in
-    (too-long (text (view (a .r)) (a .s .now)) (length (a .buf .now)) over, over-still (turned u) over)
+    (sym (short 0 (text (view (a .r)) (a .s .now)) (a .buf .now) refl over .0), over-still (turned u) over)
 
 array-share-prefix-lines-2 : tie.Need-array-share-prefix-lines-2 Inv-loop μ-loop
 array-share-prefix-lines-2 c = c .before .before .list-total .ensures .1 .0 .0
@@ -215,9 +217,9 @@ returns-3 c =
     let to = l .loop .to + p .list-part .result .length in
     let total = totalOf (view (p .list-part .result .reader)) in
     let e = last t in (
-      fits-whole (text (view (a .r)) (a .s .now)) (length (a .buf .now)) _ (omega (arith, e .0, fits v)) (e .0),
+      ap accepted (e .0) ∙ sym (writes 0 (text (view (a .r)) (a .s .now)) (a .buf .now) refl (omega (arith, e .0, fits v)) .0),
       total-written (turned u) total (listed p .end (i .if2 .taken)) (v .put-if2 .last .1 .1 .0)
-          (v .put-if2 .ensures ∙ ap (writtenIf (a .write) b to) (e .2)),
+          (v .put-if2 .ensures ∙ ap (placedIf (a .write) b to) (e .2)),
     )
 
 add-at : tie.Need-add-at Inv-loop μ-loop

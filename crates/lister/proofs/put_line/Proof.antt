@@ -1,18 +1,17 @@
 -- `put_line` meets its contract: no line is longer than the room.
-use mathlib.Core.Path.{_≡_, sym, ap, _∙_}
+use mathlib.Core.Path.{_≡_, refl, sym, ap, _∙_}
 use mathlib.Core.List.{List, []}
 use Prim.Native.Nat.{ℕ, _≤_}
 use native.Mathlib.Omega.{arith}
 use borrow.Author.Needs.{needs}
-use borrow.Author.Tests.{le-ltb}
 use lib.ListN.{length}
 use Rattle.octets.specs.Placing.{placed}
 use Rattle.octets.proofs.PlacingLaws.{placed-nil}
 use Rattle.octets.specs.declared.Written.{Written}
+use Rattle.octets.specs.Delivery.{writtenOf, filledOf}
+use Rattle.octets.proofs.DeliveryLaws.{writes}
 use Rattle.record.specs.declared.Event.{Event}
-use Rattle.listing.specs.Text.{writtenOf}
-use Rattle.listing.proofs.LineLaws.{event-longest}
-use Rattle.lister.specs.Listing.{longest}
+use Rattle.listing.specs.Text.{longestEvent}
 use Rattle.lister.specs.Posts.{lineShown}
 use Rattle.lister.proofs.put_line.Statement.{statement}
 use Rattle.lister.proofs.put_line.Tie as tie
@@ -22,11 +21,12 @@ abbrev Wrote : ℕ → List ℕ → List ℕ → List ℕ → Type 0
 Wrote k u b b′ = (k ≡ length u) × (b′ ≡ placed b 0 u) × (k ≤ length b)
 
 -- what fits is written whole
-whole : (w : Written) (t u b b′ : List ℕ) → u ≡ t → w ≡ writtenOf t b → b′ ≡ placed b 0 t → longest ≤ length b → length t ≤ longest
+whole : (w : Written) (t u b b′ : List ℕ) → u ≡ t → longestEvent ≤ length b → (w ≡ writtenOf 0 t b) × (b′ ≡ filledOf 0 t b) → length t ≤ longestEvent
     → Wrote (w .length) u b b′
-whole w t u b b′ q e f h k =
-    let n : w .length ≡ length t = ap (λ (v : Written). v .length) e ∙ rw (le-ltb (length b) (length t) (omega arith)) in
-    (n ∙ ap length (sym q), f ∙ ap (placed b 0) (sym q), omega arith)
+whole w t u b b′ q h e k =
+    let p = writes 0 t b refl (omega arith) in
+    let n : w .length ≡ length t = ap (λ (v : Written). v .length) (e .0 ∙ p .0) in
+    (n ∙ ap length (sym q), e .1 ∙ p .1 ∙ ap (placed b 0) (sym q), omega arith)
 
 -- there is no line
 silent : (u b : List ℕ) → u ≡ [] → Wrote 0 u b b
@@ -54,9 +54,8 @@ returns c =
     let t = w .before .before in
     let g = t .before .before .before in
     let a = g .args in
-    let k = event-longest (a .offset) (a .id) 0 (a .closed) (search needs) (search needs) (search needs) in
-    whole (w .event-line .result) _ _ (a .buf .now) _ (line (a .offset) (a .id) (a .closed) _ _ (t .enum-told2 .given .1))
-    (w .event-line .ensures .0) (w .event-line .ensures .1) (g .pre) k
+    whole (w .event-line .result) _ _ (a .buf .now) _ (line (a .offset) (a .id) (a .closed) _ _ (t .enum-told2 .given .1)) (g .pre)
+    (w .event-line .ensures .0) (w .event-line .ensures .1)
 
 enum-known-e : tie.Need-enum-known-e
 enum-known-e c = search needs
@@ -73,10 +72,8 @@ returns-2 c =
     let t = w .before .before .before in
     let g = t .before .before .before in
     let a = g .args in
-    let v = t .e .given .0 .0 in
-    let k = event-longest (a .offset) (a .id) v (a .closed) (search needs) (search needs) (search needs) in
-    whole (w .event-line2 .result) _ _ (a .buf .now) _ (line (a .offset) (a .id) (a .closed) _ _ (t .e .given .1))
-    (w .event-line2 .ensures .0) (w .event-line2 .ensures .1) (g .pre) k
+    whole (w .event-line2 .result) _ _ (a .buf .now) _ (line (a .offset) (a .id) (a .closed) _ _ (t .e .given .1)) (g .pre)
+    (w .event-line2 .ensures .0) (w .event-line2 .ensures .1)
 
 returns-3 : tie.Need-returns-3
 returns-3 c =

@@ -1,64 +1,75 @@
--- `event_line` meets its contract: the line was placed in an array that holds it, and is read back from there.
-use mathlib.Core.Path.{sym, ap, _∙_}
+-- `event_line` meets its contract: the line is put straight into a buffer that has room for the longest, and else composed apart.
+use mathlib.Core.Path.{_≡_, sym, ap, _∙_}
 use mathlib.Core.List.{List}
 use Prim.Native.Nat.{ℕ, _≤_}
 use native.Mathlib.Omega.{arith}
 use borrow.Author.Needs.{needs}
 use lib.ListN.{length}
 use lib.Seq.{length-take-le}
-use Rattle.octets.specs.Placing.{placed}
-use Rattle.listing.specs.Text.{eventLine, writtenOf}
-use Rattle.listing.proofs.DecimalLaws.{decimal-short}
-use Rattle.listing.proofs.LineLaws.{event-length, two-short, read-back}
+use Rattle.listing.specs.Text.{eventLine}
+use Rattle.listing.proofs.LineLaws.{straight, delivered}
 use Rattle.listing.proofs.event_line.Statement.{statement}
 use Rattle.listing.proofs.event_line.Tie as tie
 
 abbrev text : tie.Start → List ℕ
 text g = let a = g .args in eventLine (a .offset) (a .id) (a .number) (a .closed)
 
-short : (g : tie.Start) → length (text g) ≤ 64
-short g =
-    let a = g .args in
-    let n = two-short (a .offset) (a .id) (a .number) (a .closed) (search needs) (search needs) in
-    omega (arith, event-length (a .offset) (a .id) (a .number) (a .closed), decimal-short (a .offset) (search needs))
-
-slice-aggregate-put-event : tie.Need-slice-aggregate-put-event
-slice-aggregate-put-event c = search needs
+-- the array that it is composed in holds it
+within : (c : tie.After-put-event2) → c .put-event2 .result ≤ length (c .put-event2 .last .1 .1 .1 .1 .0)
+within c = omega (arith, c .put-event2 .ensures .2, c .put-event2 .kept .1 .1 .1 .1 .0)
 
 put-event-requires : tie.Need-put-event-requires
 put-event-requires c κs = search needs
-
-array-share-prefix-line : tie.Need-array-share-prefix-line
-array-share-prefix-line c = let p = c .before in omega (arith, p .put-event .ensures .0, p .put-event .kept .1 .1 .1 .1 .0, short (p .before .before .before))
-
-slice-aggregate-deliver : tie.Need-slice-aggregate-deliver
-slice-aggregate-deliver c =
-    let p = c .before .before in
-    sym (length-take-le _ (p .put-event .last .1 .1 .1 .1 .0) (omega (arith, p .put-event .ensures .0, p .put-event .kept .1 .1 .1 .1 .0, short (p .before .before .before))))
-
-deliver-requires : tie.Need-deliver-requires
-deliver-requires c κs = tt
 
 same-length : tie.Need-same-length
 same-length c = search needs
 
 returns : tie.Need-returns
 returns c =
+    let p = c .before .before in
+    let g = p .before .before .before .before in
+    let e = p .put-event .ensures in
+    let i = p .before .before .if1 .taken in
+    (straight (text g) (g .args .buf .now) _ (p .put-event .result) (e .0) (e .1) (omega (arith, e .2, i)), omega (arith, e .0, e .2))
+
+slice-aggregate-put-event : tie.Need-slice-aggregate-put-event
+slice-aggregate-put-event c = search needs
+
+put-event-requires-2 : tie.Need-put-event-requires-2
+put-event-requires-2 c κs = search needs
+
+array-share-prefix-line : tie.Need-array-share-prefix-line
+array-share-prefix-line c = within (c .before)
+
+slice-aggregate-deliver : tie.Need-slice-aggregate-deliver
+slice-aggregate-deliver c = let p = c .before .before in sym (length-take-le _ (p .put-event2 .last .1 .1 .1 .1 .0) (within p))
+
+deliver-requires : tie.Need-deliver-requires
+deliver-requires c κs = search needs
+
+same-length-2 : tie.Need-same-length-2
+same-length-2 c = search needs
+
+returns-2 : tie.Need-returns-2
+returns-2 c =
     let d = c .before .before in
     let p = d .before .before .before .before in
-    let g = p .before .before .before in
-    let b = g .args .buf .now in
-    let e = read-back _ (p .put-event .last .1 .1 .1 .1 .0) (text g) (p .put-event .result) (p .put-event .ensures .0) (p .put-event .ensures .1) (short g) in
-    (d .deliver .ensures .0 ∙ ap (λ (t : List ℕ). writtenOf t b) e, d .deliver .ensures .1 ∙ ap (placed b 0) e)
+    let g = p .before .before .before .before in
+    let e = p .put-event2 .ensures in
+    let k = p .put-event2 .kept .1 .1 .1 .1 .0 in
+    (delivered (text g) _ (p .put-event2 .last .1 .1 .1 .1 .0) (g .args .buf .now) _ (e .0) (e .1) (omega (arith, e .2)) (d .deliver .ensures), omega (arith, e .0, e .2))
 
 pub event-line-spec : {M : Type 1} → statement M
 event-line-spec =
     tie.close
     (tie.spec
-    slice-aggregate-put-event
     put-event-requires
+    same-length
+    returns
+    slice-aggregate-put-event
+    put-event-requires-2
     array-share-prefix-line
     slice-aggregate-deliver
     deliver-requires
-    same-length
-    returns)
+    same-length-2
+    returns-2)

@@ -6,21 +6,21 @@ use native.Mathlib.Omega.{arith}
 use borrow.Author.Needs.{needs}
 use lib.ListN.{length}
 use Rattle.octets.specs.Placing.{placed}
-use Rattle.listing.specs.Text.{blank, newline, decimal, hexadecimal, decimals}
-use Rattle.listing.proofs.DecimalLaws.{decimal-short}
-use Rattle.listing.proofs.LineLaws.{event-length, two-short, event-parts}
+use Rattle.listing.specs.Text.{blank, newline, decimal, hexadecimal, decimals, longestEvent}
+use Rattle.listing.proofs.LineLaws.{event-length, event-longest, event-parts}
 use Rattle.listing.proofs.put_event.Statement.{statement}
 use Rattle.listing.proofs.put_event.Tie as tie
 
--- the bounds of the parts
-offset-short : (g : tie.Start) → length (decimal (g .args .offset)) ≤ 10
-offset-short g = decimal-short (g .args .offset) (search needs)
-
-numbers-short : (g : tie.Start) → length (decimals (g .args .number ∷ g .args .closed ∷ [])) ≤ 22
-numbers-short g = two-short (g .args .offset) (g .args .id) (g .args .number) (g .args .closed) (search needs) (search needs)
+-- the line is within the longest
+room : (g : tie.Start)
+    → let a = g .args in length (decimal (a .offset)) + 3 + length (decimals (a .number ∷ a .closed ∷ [])) + 1 ≤ longestEvent
+room g =
+    let a = g .args in
+    let k = event-longest (a .offset) (a .id) (a .number) (a .closed) (search needs) (search needs) (search needs) in
+    omega (arith, event-length (a .offset) (a .id) (a .number) (a .closed))
 
 put-decimal-requires : tie.Need-put-decimal-requires
-put-decimal-requires c κs = omega (arith, offset-short (c .before .before))
+put-decimal-requires c κs = omega (arith, room (c .before .before), c .before .before .pre)
 
 hex-digit-requires : tie.Need-hex-digit-requires
 hex-digit-requires c κs = search needs
@@ -40,14 +40,14 @@ slice-aggregate-put-decimals c = search needs
 add-put-decimals : tie.Need-add-put-decimals
 add-put-decimals c =
     let o = c .before .before .before .before .before .before .before .before .before .before .before in
-    omega (arith, o .put-decimal .ensures .0, offset-short (o .before .before .before))
+    omega (arith, o .put-decimal .ensures .0, room (o .before .before .before))
 
 put-decimals-requires : tie.Need-put-decimals-requires
 put-decimals-requires c κs =
     let p = c .before .before .before .before in
     let o = p .before .before .before .before .before .before .before in
     let g = o .before .before .before in
-    omega (arith, o .put-decimal .ensures .0, offset-short g, numbers-short g, p .put .kept .1 .0, o .put-decimal .kept .1 .0, g .pre)
+    omega (arith, o .put-decimal .ensures .0, room g, p .put .kept .1 .0, o .put-decimal .kept .1 .0, g .pre)
 
 slice-aggregate-put-2 : tie.Need-slice-aggregate-put-2
 slice-aggregate-put-2 c = search needs
@@ -60,7 +60,7 @@ add-result c =
     let d = c .before .before .before .before .before .before .before in
     let o = d .before .before .before .before .before .before .before .before .before .before .before .before in
     let g = o .before .before .before in
-    omega (arith, d .put-decimals .ensures .0, o .put-decimal .ensures .0, offset-short g, numbers-short g)
+    omega (arith, d .put-decimals .ensures .0, o .put-decimal .ensures .0, room g)
 
 same-length : tie.Need-same-length
 same-length c = search needs
@@ -89,7 +89,8 @@ returns c =
           ∙ ap (λ (z : List ℕ). placed (placed z (n + 3) (decimals ns)) k (newline ∷ [])) (p .put .ensures .1)
           ∙ (λ i. placed (placed (placed (o .put-decimal .ensures .1 i) n (name i)) (n + 3) (decimals ns)) k (newline ∷ []))
           ∙ event-parts (x .offset) (x .id) (x .number) (x .closed) (x .line .now) n k
-          (omega (arith, offset-short g, numbers-short g, g .pre)) en ek,
+          (omega (arith, room g, g .pre)) en ek,
+      omega (arith, room g),
     )
 
 pub put-event-spec : {M : Type 1} → statement M

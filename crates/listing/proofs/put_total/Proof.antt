@@ -6,17 +6,18 @@ use native.Mathlib.Omega.{arith}
 use borrow.Author.Needs.{needs}
 use lib.ListN.{length}
 use Rattle.octets.specs.Placing.{placed}
-use Rattle.listing.specs.Text.{newline, decimals}
-use Rattle.listing.proofs.LineLaws.{total-length, five-short, total-parts}
+use Rattle.listing.specs.Text.{newline, decimals, longestTotal}
+use Rattle.listing.proofs.LineLaws.{total-length, total-longest, total-parts}
 use Rattle.listing.proofs.put_total.Statement.{statement}
 use Rattle.listing.proofs.put_total.Tie as tie
 
--- the bound of the numbers
-numbers-short : (g : tie.Start)
-    → let a = g .args in length (decimals (a .fed ∷ a .accepted ∷ a .refused ∷ a .outside ∷ a .pending ∷ [])) ≤ 55
-numbers-short g =
+-- the line is within the longest
+room : (g : tie.Start)
+    → let a = g .args in 5 + length (decimals (a .fed ∷ a .accepted ∷ a .refused ∷ a .outside ∷ a .pending ∷ [])) + 1 ≤ longestTotal
+room g =
     let a = g .args in
-    five-short (a .fed) (a .accepted) (a .refused) (a .outside) (a .pending) (search needs) (search needs) (search needs) (search needs) (search needs)
+    let k = total-longest (a .fed) (a .accepted) (a .refused) (a .outside) (a .pending) (search needs) (search needs) (search needs) (search needs) (search needs) in
+    omega (arith, total-length (a .fed) (a .accepted) (a .refused) (a .outside) (a .pending))
 
 slice-aggregate-put : tie.Need-slice-aggregate-put
 slice-aggregate-put c = search needs
@@ -31,7 +32,7 @@ put-decimals-requires : tie.Need-put-decimals-requires
 put-decimals-requires c κs =
     let p = c .before .before .before .before in
     let g = p .before .before .before .before in
-    omega (arith, numbers-short g, p .put .kept .1 .0, g .pre)
+    omega (arith, room g, p .put .kept .1 .0, g .pre)
 
 slice-aggregate-put-2 : tie.Need-slice-aggregate-put-2
 slice-aggregate-put-2 c = search needs
@@ -43,7 +44,7 @@ add-result : tie.Need-add-result
 add-result c =
     let d = c .before .before .before .before .before .before .before in
     let g = d .before .before .before .before .before .before .before .before .before in
-    omega (arith, d .put-decimals .ensures .0, numbers-short g)
+    omega (arith, d .put-decimals .ensures .0, room g)
 
 same-length : tie.Need-same-length
 same-length c = search needs
@@ -65,7 +66,8 @@ returns c =
           ∙ ap (λ (z : List ℕ). placed z k (newline ∷ [])) (d .put-decimals .ensures .1)
           ∙ ap (λ (z : List ℕ). placed (placed z 5 (decimals ns)) k (newline ∷ [])) word
           ∙ total-parts (x .fed) (x .accepted) (x .refused) (x .outside) (x .pending) (x .line .now) k
-          (omega (arith, numbers-short g, g .pre)) ek,
+          (omega (arith, room g, g .pre)) ek,
+      omega (arith, room g),
     )
 
 pub put-total-spec : {M : Type 1} → statement M

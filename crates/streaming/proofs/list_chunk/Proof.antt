@@ -5,7 +5,7 @@ use native.Mathlib.Omega.{arith}
 use borrow.Author.Needs.{needs}
 use lib.ListN.{length, drop, drop-of-length-le}
 use Rattle.record.specs.View.{view}
-use Rattle.lister.specs.Listing.{longest}
+use Rattle.listing.specs.Text.{longestEvent}
 use Rattle.streaming.specs.Through.{through}
 use Rattle.streaming.proofs.ChunkLaws.{Went, went, Partly}
 use Rattle.streaming.proofs.list_chunk.Statement.{statement}
@@ -29,7 +29,7 @@ listed c =
     let l = c .before .before .before .before in
     let a = l .before .before .before in
     let w = l .loop .inv in
-    let k : longest ≤ length (l .loop .lines) = omega (arith, w .same, a .pre .1) in
+    let k : longestEvent ≤ length (l .loop .lines) = omega (arith, w .same, a .pre .1) in
     let e = c .list-part .ensures in
     went (l .loop .g) (a .args .s .now) (l .loop .at) (l .loop .lines) (c .list-part .result) (c .list-part .last .1 .1 .0)
     (w .good) k (w .within) (e .0) (e .1 .0) (e .1 .1)

@@ -16,7 +16,7 @@ use Rattle.io.specs.Counts.{clamped}
 use Rattle.line.specs.Record.{limit}
 use Rattle.record.specs.declared.Reader.{Reader}
 use Rattle.record.specs.View.{view}
-use Rattle.lister.specs.Listing.{longest}
+use Rattle.listing.specs.Text.{longestEvent}
 use Rattle.streaming.specs.Through.{Through, until, through}
 use Rattle.streaming.specs.Posts.{seen}
 use Rattle.streaming.proofs.ReadsLaws.{Between, before, further, counted, nearer, none, some}
@@ -92,7 +92,7 @@ slice-aggregate-list-chunk-2 c = search needs
 list-chunk-requires : tie.Need-list-chunk-requires Inv-loop μ-loop
 list-chunk-requires c κs =
     let w = c .before .before .before .before .before .before .before .before .loop .inv in
-    let k : longest ≤ length (c .before .before .before .before .before .before .before .before .loop .lines) = omega (arith, w .room) in
+    let k : longestEvent ≤ length (c .before .before .before .before .before .before .before .before .loop .lines) = omega (arith, w .room) in
     (w .good, k)
 
 -- the bytes of the chunk

@@ -4,7 +4,7 @@ use mathlib.Core.Path.{_≡_, refl}
 use Prim.Native.Nat.{ℕ}
 use lib.ListN.{replicate}
 use Rattle.record.specs.View.{view}
-use Rattle.listing.specs.Totals.{totalOf}
+use Rattle.listing.specs.Text.{totalOf, longestTotal}
 use Rattle.lister.proofs.PartLaws.{total-whole}
 use borrow.Author.Needs.{needs}
 use Rattle.streaming.proofs.print_total.Statement.{statement}
@@ -33,7 +33,7 @@ returns c =
     let t = c .before .before .before .before .before in
     let e = t .list-total .ensures in
     let total = totalOf (view (c .before .before .before .before .before .before .before .before .before .args .x .chunk .reader)) in
-    let b : List ℕ = replicate 64 0 in
+    let b : List ℕ = replicate longestTotal 0 in
     record {
       reader = refl;
       refusal = refl;
