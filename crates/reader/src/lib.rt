@@ -615,11 +615,11 @@ fn refuse(h: Head, l: Latest, v: u8) -> InPlace
 pub fn feed_in_place(h: Head, l: Latest, d: &mut [u8; 1024], s: &[u8]) -> InPlace
     ensures { λ x. ⌜ InPlacePost h l (now (d .entry)) (now (d .exit)) (now (s .entry)) x ⌝ }
 {
+    let m = start(h);
     let v = questions::question(h, l, d, s.len());
     if v != 0 {
         return refuse(h, l, v);
     }
-    let m = start(h);
     let n = span(h.fed, s.len());
     let t = run(h.mode, m, d, s, n);
     let o = finish(h, t, d);

@@ -25,14 +25,17 @@ abbrev of : tie.Start → Reader
 of s = recordOf (s .args .h) (s .args .l) (now (s .args .d))
 
 abbrev asked : tie.Else1 → tie.Start
-asked i = i .before .before .before .before .before
+asked i = i .before .before .before .before .before .before
+
+abbrev begun : tie.Else1 → tie.After-start
+begun i = i .before .before .before .before
 
 -- all questions are yes
 valid : (i : tie.Else1) → Valid (of (asked i))
 valid i = i .before .question .ensures .valid (i .if1 .left)
 
 abbrev passed : tie.After-run → tie.Else1
-passed k = k .before .before .before .before
+passed k = k .before .before .before
 
 -- the array afterwards
 abbrev left : tie.After-run → List ℕ
@@ -46,7 +49,7 @@ ready k =
     let v = valid i in
     let s = now (asked i .args .s) in
     ready-of r (v .whole) (v .possible) s (n .result) (k .run .result) (left k)
-    (subst (λ (m : Moving). Ran (r .head .mode) m (r .bytes) (left k) s (n .result) (k .run .result)) (k .before .before .before .start .ensures) (k .run .ensures))
+    (subst (λ (m : Moving). Ran (r .head .mode) m (r .bytes) (left k) s (n .result) (k .run .result)) (begun i .start .ensures) (k .run .ensures))
     (n .ensures .1) (n .ensures .2)
 
 -- what is returned, once it is what the act comes to
@@ -68,7 +71,7 @@ refuse-requires c κs = tt
 returns : tie.Need-returns
 returns c =
     let q = c .before .before in
-    let s = q .before .before .before .before in
+    let s = q .before .before .before .before .before in
     subst (λ (x : InPlace). InPlacePost (s .args .h) (s .args .l) (now (s .args .d)) (now (s .args .d)) (now (s .args .s)) x) (sym (c .refuse .ensures))
     (refuses (of s) (now (s .args .s)) (q .question .result) (q .question .ensures) (c .before .if1 .taken))
 
@@ -81,10 +84,10 @@ span-requires c κs = tt
 run-requires : tie.Need-run-requires
 run-requires c κs =
     let n = c .before .span in
-    let i = c .before .before .before in
+    let i = c .before .before in
     let r = of (asked i) in
     let v = valid i in
-    let e = sym (c .before .before .start .ensures) in (
+    let e = sym (begun i .start .ensures) in (
       (n .ensures .0, v .whole, subst (λ (m : Moving). Pends m (r .bytes)) e (start-pends r (v .whole) (v .possible))),
       (
         subst (λ (m : Moving). Fits m 0 (n .result)) e (start-fits r (v .whole) (v .possible) (n .result) (n .ensures .1)),
@@ -127,10 +130,10 @@ pub feed-in-place-spec : {M : Type 1} → statement M
 feed-in-place-spec =
     tie.close
     (tie.spec
+    start-requires
     question-requires
     refuse-requires
     returns
-    start-requires
     span-requires
     run-requires
     finish-requires
