@@ -1,4 +1,4 @@
--- What one slice call of the reader comes to in a part of a listing: `last` where it takes nothing, `more` where it takes something.
+-- What one slice call of the reader comes to in a part of a listing: `call-last` where it takes nothing, `call-more` where it takes something.
 use mathlib.Core.Bool.{Bool, true, false, cond}
 use mathlib.Core.List.{List, [], _∷_, _++_}
 use mathlib.Core.Path.{_≡_, refl, sym, ap, _∙_, subst, subst⁻¹}
@@ -17,9 +17,9 @@ use Rattle.record.specs.View.{Parts, view, partsOf, shown}
 use Rattle.record.specs.Posts.{FeedPost}
 use Rattle.reader.proofs.Taking.{passed}
 use Rattle.listing.specs.Text.{longestEvent}
-use Rattle.lister.specs.Listing.{lineOf, Piece, piece}
+use Rattle.lister.specs.Listing.{lineOf, Segment, segment}
 use Rattle.lister.specs.Posts.{eventNumber, lineShown}
-use Rattle.lister.proofs.PieceLaws.{walk-mode, walk-possible, walk-fed, walk-some, ahead, rest, piece-full, piece-limit, piece-walk}
+use Rattle.lister.proofs.SegmentLaws.{walk-mode, walk-possible, walk-fed, walk-some, bytesAhead, rest, segment-full, segment-limit, segment-walk}
 
 -- the line of an answer, as the code writes it
 abbrev pub lineFrom : Fed → List ℕ
@@ -31,14 +31,14 @@ line-shown o (message id d n) = refl
 line-shown o (refusal v id n) = refl
 
 -- the bytes that are offered
-abbrev pub offered : ℕ → List ℕ → List ℕ
-offered room s = cond (ltb room longestEvent) [] s
+abbrev pub offeredIn : ℕ → List ℕ → List ℕ
+offeredIn room s = cond (ltb room longestEvent) [] s
 
 -- a part of a listing that leaves the reader g: the refusal v, n bytes, the lines t
-abbrev pub Out : Reader → List ℕ → ℕ → Reader → ℕ → ℕ → List ℕ → Type 0
-Out r s room g v n t =
+abbrev pub PartOut : Reader → List ℕ → ℕ → Reader → ℕ → ℕ → List ℕ → Type 0
+PartOut r s room g v n t =
     Asked (view r) ⊥ (λ w. (g ≡ r) × (v ≡ w) × (n ≡ 0) × (t ≡ []))
-    (let p = piece room (view r) s in (view g ≡ p .after) × (v ≡ p .refusal) × (n ≡ p .taken) × (t ≡ p .lines))
+    (let p = segment room (view r) s in (view g ≡ p .after) × (v ≡ p .refusal) × (n ≡ p .taken) × (t ≡ p .lines))
 
 -- where a call took a byte there was something to take, and fed is past 0
 module _ (r : Reader) (l : List ℕ) (x : Fed) (q : FeedPost r l x) (h : 0 < x .taken) where
@@ -58,13 +58,13 @@ taken-fits r l x q = by (eqb (x .taken) 0) refl
     by false e = let n = eqb-false (x .taken) 0 e in taken-within r l x q (omega arith)
 
 -- a call that takes nothing and leaves what p says
-abbrev Ends : Fed → Piece → Type 0
+abbrev Ends : Fed → Segment → Type 0
 Ends x p = (view (x .reader) ≡ p .after) × (eventNumber (x .answer .event) ≡ p .refusal) × (0 ≡ p .taken) × ([] ≡ p .lines)
 
 -- the last call takes nothing: all is listed, there is no room, or it is refused
-pub last : (r : Reader) (s : List ℕ) (room : ℕ) (x : Fed) → FeedPost r (offered room s) x → x .taken ≡ 0
-    → Out r s room (x .reader) (eventNumber (x .answer .event)) 0 []
-last r s room x q z =
+pub call-last : (r : Reader) (s : List ℕ) (room : ℕ) (x : Fed) → FeedPost r (offeredIn room s) x → x .taken ≡ 0
+    → PartOut r s room (x .reader) (eventNumber (x .answer .event)) 0 []
+call-last r s room x q z =
     record {
       one = λ m. let w = q .asked .one m in (w .0, ap (λ (p : Parts). eventNumber (p .event)) (w .1), refl, refl);
       two = λ m n. let w = q .asked .two m n in (w .0, ap (λ (p : Parts). eventNumber (p .event)) (w .1), refl, refl);
@@ -79,22 +79,22 @@ last r s room x q z =
         (w .0, ap (λ (p : Parts). eventNumber (p .event)) (w .1), refl, refl)
 
     full : (b : ℕ) (bs : List ℕ) (t : Bool) → ltb (r .head .fed) limit ≡ t → ltb room longestEvent ≡ false → FeedPost r (b ∷ bs) x
-        → r .head .mode ≤ 1 → Possible (view r) → Ends x (piece room (view r) (b ∷ bs))
+        → r .head .mode ≤ 1 → Possible (view r) → Ends x (segment room (view r) (b ∷ bs))
     full b bs true e k q m p =
         let w = q .asked .rest m p (λ o. ltb-true (r .head .fed) limit e) in
         absurd (omega (arith, w .2, walk-some b bs (view r) e))
     full b bs false e k q m p =
         let w = q .asked .three m p (omega arith) (ltb-false (r .head .fed) limit e) in
-        subst⁻¹ (Ends x) (piece-limit room (view r) b bs k e) (ap view (w .0), ap (λ (p : Parts). eventNumber (p .event)) (w .1), refl, refl)
+        subst⁻¹ (Ends x) (segment-limit room (view r) b bs k e) (ap view (w .0), ap (λ (p : Parts). eventNumber (p .event)) (w .1), refl, refl)
 
     by : (t : Bool) → ltb room longestEvent ≡ t → (s : List ℕ) → FeedPost r (cond t [] s) x → r .head .mode ≤ 1 → Possible (view r)
-        → Ends x (piece room (view r) s)
-    by true k s q m p = subst⁻¹ (Ends x) (piece-full room (view r) s k) (none q m p)
+        → Ends x (segment room (view r) s)
+    by true k s q m p = subst⁻¹ (Ends x) (segment-full room (view r) s k) (none q m p)
     by false k [] q m p = none q m p
     by false k (b ∷ bs) q m p = full b bs (ltb (r .head .fed) limit) refl k q m p
 
 -- where something was taken there was room
-pub room-left : (r : Reader) (s : List ℕ) (room : ℕ) (x : Fed) → FeedPost r (offered room s) x → 0 < x .taken → ltb room longestEvent ≡ false
+pub room-left : (r : Reader) (s : List ℕ) (room : ℕ) (x : Fed) → FeedPost r (offeredIn room s) x → 0 < x .taken → ltb room longestEvent ≡ false
 room-left r s room x q h = by (ltb room longestEvent) refl q
   where
     by : (t : Bool) → ltb room longestEvent ≡ t → FeedPost r (cond t [] s) x → ltb room longestEvent ≡ false
@@ -102,19 +102,19 @@ room-left r s room x q h = by (ltb room longestEvent) refl q
     by false k q = k
 
 -- a call that takes something, and then what is right from where it stopped
-pub more : (r : Reader) (s : List ℕ) (room : ℕ) (x : Fed) → FeedPost r (offered room s) x → 0 < x .taken → (g : Reader) (v n : ℕ) (t : List ℕ)
-    → Out (x .reader) (drop (x .taken) s) (room - length (lineFrom x)) g v n t → Out r s room g v (x .taken + n) (lineFrom x ++ t)
-more r s room x q h g v n t o =
+pub call-more : (r : Reader) (s : List ℕ) (room : ℕ) (x : Fed) → FeedPost r (offeredIn room s) x → 0 < x .taken → (g : Reader) (v n : ℕ) (t : List ℕ)
+    → PartOut (x .reader) (drop (x .taken) s) (room - length (lineFrom x)) g v n t → PartOut r s room g v (x .taken + n) (lineFrom x ++ t)
+call-more r s room x q h g v n t o =
     record {
       one = λ m. absurd (omega (arith, q .asked .one m .2));
       two = λ m f. absurd (omega (arith, q .asked .two m f .2));
       three = λ m p z f. absurd z;
       rest = λ m p z.
           let u = o .rest (rw (mode-kept) m) (kept p) (λ y. absurd y) in (
-            u .0 ∙ ap (λ (y : Piece). y .after) (sym e),
-            u .1 ∙ ap (λ (y : Piece). y .refusal) (sym e),
-            ap (λ (k : ℕ). x .taken + k) (u .2) ∙ ap (λ (y : Piece). y .taken) (sym e),
-            ap (λ (k : List ℕ). lineFrom x ++ k) (u .3) ∙ ap (λ (y : Piece). y .lines) (sym e),
+            u .0 ∙ ap (λ (y : Segment). y .after) (sym e),
+            u .1 ∙ ap (λ (y : Segment). y .refusal) (sym e),
+            ap (λ (k : ℕ). x .taken + k) (u .2) ∙ ap (λ (y : Segment). y .taken) (sym e),
+            ap (λ (k : List ℕ). lineFrom x ++ k) (u .3) ∙ ap (λ (y : Segment). y .lines) (sym e),
           );
     }
   where
@@ -140,8 +140,8 @@ more r s room x q h g v n t o =
         (λ i. lineShown (w .0 i .fed - 1) (w .1 i .event) (w .1 i .id) (w .1 i .closed))
         ∙ line-shown (walk (view r) s .after .fed - 1) (walk (view r) s .answer)
 
-    e : piece room (view r) s
-        ≡ ahead (x .taken) (lineFrom x) (piece (room - length (lineFrom x)) (view (x .reader)) (drop (x .taken) s))
+    e : segment room (view r) s
+        ≡ bytesAhead (x .taken) (lineFrom x) (segment (room - length (lineFrom x)) (view (x .reader)) (drop (x .taken) s))
     e =
-        piece-walk s room (view r) k (omega (arith, w .2))
-        ∙ sym (λ i. ahead (w .2 i) (line i) (piece (room - length (line i)) (w .0 i) (drop (w .2 i) s)))
+        segment-walk s room (view r) k (omega (arith, w .2))
+        ∙ sym (λ i. bytesAhead (w .2 i) (line i) (segment (room - length (line i)) (w .0 i) (drop (w .2 i) s)))

@@ -1,4 +1,4 @@
-pub mod PieceLaws
+pub mod SegmentLaws
 pub mod FeedLaws
 pub mod Turns
 pub mod CountLaws

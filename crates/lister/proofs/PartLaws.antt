@@ -17,9 +17,9 @@ use Rattle.record.specs.View.{view}
 use Rattle.listing.specs.Text.{totalOf, longestEvent}
 use Rattle.listing.proofs.LineLaws.{read-back}
 use Rattle.lister.specs.declared.Part.{Part}
-use Rattle.lister.specs.Listing.{text, Piece, piece}
-use Rattle.lister.specs.Posts.{PartPost, Good}
-use Rattle.lister.proofs.PieceLaws.{text-piece, piece-mode, piece-possible, piece-end}
+use Rattle.lister.specs.Listing.{text, Segment, segment}
+use Rattle.lister.specs.Posts.{PartIs, PartPost, Good}
+use Rattle.lister.proofs.SegmentLaws.{text-segment, segment-mode, segment-possible, segment-end}
 
 -- the rest of a slice
 pub rest-of : (s : List ℕ) (at : ℕ) → take (length s - at) (drop at s) ≡ drop at s
@@ -31,20 +31,16 @@ taken-of-rest s at n w f = omega (arith, ap length (rest-of s at), length-drop a
 
 -- one call, on a reader that questions 1 and 2 let pass
 module _ (r : Reader) (s b : List ℕ) (x : Part) (b′ : List ℕ) (q : PartPost r s b x b′) (c : Counts (x .length) b′) (g : Good r) where
-  abbrev p : Piece
-  p = piece (length b) (view r) s
+  abbrev p : Segment
+  p = segment (length b) (view r) s
 
-  pub part-is : (view (x .reader) ≡ p .after)
-      × (x .refusal ≡ p .refusal)
-      × (x .taken ≡ p .taken)
-      × (x .length ≡ length (p .lines))
-      × (b′ ≡ placed b 0 (p .lines))
+  pub part-is : PartIs p x b b′
   part-is = q .rest (g .0) (g .1) (λ z. absurd z)
 
   pub part-good : Good (x .reader)
   part-good = (
-    omega (arith, ap (λ (v : Rec). v .mode) (part-is .0), piece-mode s (length b) (view r), g .0),
-    subst⁻¹ Possible (part-is .0) (piece-possible s (length b) (view r) (g .1)),
+    omega (arith, ap (λ (v : Rec). v .mode) (part-is .0), segment-mode s (length b) (view r), g .0),
+    subst⁻¹ Possible (part-is .0) (segment-possible s (length b) (view r) (g .1)),
   )
 
   pub part-lines : take (x .length) b′ ≡ p .lines
@@ -70,11 +66,11 @@ called g s at b x b′ h k w q f c =
       within = taken-of-rest s at (x .taken) w f;
       counts = c .1;
       whole =
-          text-piece d (length b) (view g)
+          text-segment d (length b) (view g)
           ∙ sym (λ i. part-lines g d b x b′ q′ c h i ++ text (is .0 i) (drop (is .2 i) d))
           ∙ ap (λ (z : List ℕ). take (x .length) b′ ++ text (view (x .reader)) z) (drop-drop (x .taken) at s);
       end = λ z.
-          let e = piece-end d (length b) (view g) (le-ltb (length b) longestEvent k) (sym (is .2) ∙ z) in
+          let e = segment-end d (length b) (view g) (le-ltb (length b) longestEvent k) (sym (is .2) ∙ z) in
           let same : view (x .reader) ≡ view g = is .0 ∙ e .0 in
           let here : at + x .taken ≡ at = omega arith in
           (λ i. text (same i) (drop (here i) s)) ∙ e .1 ∙ sym (ap totalOf same);
@@ -86,11 +82,7 @@ called g s at b x b′ h k w q f c =
     q′ : PartPost g d b x b′
     q′ = subst (λ (z : List ℕ). PartPost g z b x b′) (rest-of s at) q
 
-    is : (view (x .reader) ≡ piece (length b) (view g) d .after)
-        × (x .refusal ≡ piece (length b) (view g) d .refusal)
-        × (x .taken ≡ piece (length b) (view g) d .taken)
-        × (x .length ≡ length (piece (length b) (view g) d .lines))
-        × (b′ ≡ placed b 0 (piece (length b) (view g) d .lines))
+    is : PartIs (segment (length b) (view g) d) x b b′
     is = part-is g d b x b′ q′ c h
 
 -- a total that fits is written whole

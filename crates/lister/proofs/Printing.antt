@@ -16,18 +16,18 @@ use Rattle.record.specs.Posts.{FreshPost}
 use Rattle.octets.specs.Delivery.{Counts}
 use Rattle.listing.specs.Text.{totalOf, longestEvent}
 use Rattle.lister.specs.declared.Part.{Part}
-use Rattle.lister.specs.Listing.{lineOf, text, Piece, piece}
+use Rattle.lister.specs.Listing.{lineOf, text, Segment, segment}
 use Rattle.lister.specs.Posts.{PartPost, Good, Prints}
 use Rattle.lister.specs.Posts.Prints.{ended, full, part}
-use Rattle.lister.proofs.PieceLaws.{piece-by, text-piece-more}
+use Rattle.lister.proofs.SegmentLaws.{segment-by, text-segment-more}
 use Rattle.lister.proofs.PartLaws.{part-is, part-good, part-lines}
 use Rattle.lister.proofs.FreshLaws.{fresh-good}
 
 -- where the next byte can't be counted, the total follows
-full-piece : (l m : List ℕ) (room : ℕ) (r : Rec) → piece room r l .refusal ≡ 3
-    → text (piece room r l .after) (drop (piece room r l .taken) (l ++ m)) ≡ totalOf (piece room r l .after)
-full-piece l m =
-    piece-by (λ room r k p. p .refusal ≡ 3 → text (p .after) (drop (p .taken) (k ++ m)) ≡ totalOf (p .after)) (λ room r h. absurd (omega arith))
+full-segment : (l m : List ℕ) (room : ℕ) (r : Rec) → segment room r l .refusal ≡ 3
+    → text (segment room r l .after) (drop (segment room r l .taken) (l ++ m)) ≡ totalOf (segment room r l .after)
+full-segment l m =
+    segment-by (λ room r k p. p .refusal ≡ 3 → text (p .after) (drop (p .taken) (k ++ m)) ≡ totalOf (p .after)) (λ room r h. absurd (omega arith))
     (λ room r k q h. absurd (omega arith))
     (λ room r b bs k h. ap (λ (c : Bool). cond c (lineOf (r .fed) (eventOf r b) ++ text (stepped r b) (bs ++ m)) (totalOf r)) k)
     (λ room r b bs p k h. h) l
@@ -37,14 +37,14 @@ module _ (r : Reader) (s b : List ℕ) (x : Part) (b′ : List ℕ) (q : PartPos
   whole : (m : List ℕ) → text (view r) (s ++ m) ≡ take (x .length) b′ ++ text (view (x .reader)) (drop (x .taken) (s ++ m))
   whole m =
       let is = part-is r s b x b′ q c g in
-      text-piece-more s m (length b) (view r)
+      text-segment-more s m (length b) (view r)
       ∙ sym (λ i. part-lines r s b x b′ q c g i ++ text (is .0 i) (drop (is .2 i) (s ++ m)))
 
   last : (m : List ℕ) → x .refusal ≡ 3 → text (view (x .reader)) (drop (x .taken) (s ++ m)) ≡ totalOf (view (x .reader))
   last m z =
       let is = part-is r s b x b′ q c g in
       (λ i. text (is .0 i) (drop (is .2 i) (s ++ m)))
-      ∙ full-piece s m (length b) (view r) (sym (is .1) ∙ z)
+      ∙ full-segment s m (length b) (view r) (sym (is .1) ∙ z)
       ∙ sym (ap totalOf (is .0))
 
 prints : {r : Reader} {l out : List ℕ} → Prints r l out → Good r → out ≡ text (view r) l

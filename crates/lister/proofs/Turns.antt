@@ -15,10 +15,10 @@ use Rattle.octets.proofs.PlacingLaws.{placed-fits, placed-start, placed-nil, le
 use Rattle.record.specs.declared.Reader.{Reader}
 use Rattle.record.specs.declared.Fed.{Fed}
 use Rattle.record.specs.Posts.{FeedPost}
-use Rattle.listing.proofs.LineLaws.{after}
+use Rattle.listing.proofs.LineLaws.{placed-after}
 use Rattle.listing.specs.Text.{longestEvent}
 use Rattle.lister.specs.Posts.{PartPost, eventNumber}
-use Rattle.lister.proofs.FeedLaws.{lineFrom, offered, Out, last, more, taken-fits, fed-some, room-left}
+use Rattle.lister.proofs.FeedLaws.{lineFrom, offeredIn, PartOut, call-last, call-more, taken-fits, fed-some, room-left}
 
 -- at bytes were taken of s by the reader r₀, which is r now; to bytes were written into b₀, which is b now
 pub record Turn (r₀ : Reader) (s b₀ : List ℕ) (r : Reader) (b : List ℕ) (at to : ℕ) : Type 0 where
@@ -26,8 +26,8 @@ pub record Turn (r₀ : Reader) (s b₀ : List ℕ) (r : Reader) (b : List ℕ) 
   pub room : to ≤ length b
   pub same : length b ≡ length b₀
   pub written : b ≡ placed b₀ 0 (take to b)
-  pub right : (g : Reader) (v n : ℕ) (t : List ℕ) → Out r (drop at s) (length b - to) g v n t
-      → Out r₀ s (length b₀) g v (at + n) (take to b ++ t)
+  pub right : (g : Reader) (v n : ℕ) (t : List ℕ) → PartOut r (drop at s) (length b - to) g v n t
+      → PartOut r₀ s (length b₀) g v (at + n) (take to b ++ t)
 
 pub turn-none : (r : Reader) (s b : List ℕ) → Turn r s b r b 0 0
 turn-none r s b =
@@ -37,12 +37,12 @@ turn-none r s b =
       room = omega arith;
       same = refl;
       written = sym (placed-nil b 0);
-      right = λ g v n t o. rw zero-add (subst (λ (k : ℕ). Out r s k g v n t) e o);
+      right = λ g v n t o. rw zero-add (subst (λ (k : ℕ). PartOut r s k g v n t) e o);
     }
 
 -- the bytes that a turn offers
 pub part-offered : (s : List ℕ) (at room end : ℕ) → end ≡ cond (ltb room longestEvent) at (length s)
-    → take (end - at) (drop at s) ≡ offered room (drop at s)
+    → take (end - at) (drop at s) ≡ offeredIn room (drop at s)
 part-offered s at room end e = ap (λ (k : ℕ). take (k - at) (drop at s)) e ∙ by (ltb room longestEvent)
   where
     by : (t : Bool) → take (cond t at (length s) - at) (drop at s) ≡ cond t [] (drop at s)
@@ -56,7 +56,7 @@ offer-within s at room end e h = by (ltb room longestEvent) e
     by true e = (omega arith, omega arith)
     by false e = (omega arith, omega arith)
 
-pub offered-within : (room : ℕ) (s : List ℕ) → length (offered room s) ≤ length s
+pub offered-within : (room : ℕ) (s : List ℕ) → length (offeredIn room s) ≤ length s
 offered-within room s = by (ltb room longestEvent)
   where
     by : (t : Bool) → length (cond t [] s) ≤ length s
@@ -82,13 +82,13 @@ part-placed b l p to h e =
     ∙ sym (placed-fits b to l h)
 
 module _ {r₀ : Reader} {s b₀ : List ℕ} {r : Reader} {b : List ℕ} {at to : ℕ} (w : Turn r₀ s b₀ r b at to) (x : Fed)
-    (q : FeedPost r (offered (length b - to) (drop at s)) x) where
+    (q : FeedPost r (offeredIn (length b - to) (drop at s)) x) where
   -- the bytes taken lie within s; where there are any, there was room for a line, and fed is past 0
   pub turn-within : at + x .taken ≤ length s
   turn-within =
       omega (
         arith,
-        taken-fits r (offered (length b - to) (drop at s)) x q,
+        taken-fits r (offeredIn (length b - to) (drop at s)) x q,
         offered-within (length b - to) (drop at s),
         length-drop at s,
         w .within,
@@ -98,7 +98,7 @@ module _ {r₀ : Reader} {s b₀ : List ℕ} {r : Reader} {b : List ℕ} {at to 
   turn-room h = ltb-false (length b - to) longestEvent (room-left r (drop at s) (length b - to) x q h)
 
   pub turn-fed : 0 < x .taken → 0 < x .reader .head .fed
-  turn-fed h = fed-some r (offered (length b - to) (drop at s)) x q h
+  turn-fed h = fed-some r (offeredIn (length b - to) (drop at s)) x q h
 
   -- something was taken, and its line written
   pub turn-more : (b′ : List ℕ) (k : ℕ) → 0 < x .taken → k ≡ length (lineFrom x) → to + k ≤ length b → b′ ≡ placed b to (lineFrom x)
@@ -119,15 +119,15 @@ module _ {r₀ : Reader} {s b₀ : List ℕ} {r : Reader} {b : List ℕ} {at to 
         written =
             eb
             ∙ ap (λ (z : List ℕ). placed z to l) (w .written)
-            ∙ after b₀ p l to (sym n) (omega (arith, w .same))
+            ∙ placed-after b₀ p l to (sym n) (omega (arith, w .same))
             ∙ ap (placed b₀ 0) (sym front);
         right = λ g v m t o.
             let left : length b′ - (to + k) ≡ length b - to - length l = omega arith in
             let past : drop (at + x .taken) s ≡ drop (x .taken) (drop at s) = sym (drop-drop (x .taken) at s) in
-            let o′ : Out (x .reader) (drop (x .taken) (drop at s)) (length b - to - length l) g v m t =
-            subst (λ (j : ℕ). Out (x .reader) (drop (x .taken) (drop at s)) j g v m t) left
-            (subst (λ (d : List ℕ). Out (x .reader) d (length b′ - (to + k)) g v m t) past o) in
-            let u = w .right g v (x .taken + m) (l ++ t) (more r (drop at s) (length b - to) x q h g v m t o′) in
+            let o′ : PartOut (x .reader) (drop (x .taken) (drop at s)) (length b - to - length l) g v m t =
+            subst (λ (j : ℕ). PartOut (x .reader) (drop (x .taken) (drop at s)) j g v m t) left
+            (subst (λ (d : List ℕ). PartOut (x .reader) d (length b′ - (to + k)) g v m t) past o) in
+            let u = w .right g v (x .taken + m) (l ++ t) (call-more r (drop at s) (length b - to) x q h g v m t o′) in
             rw (front, append-assoc, add-assoc) u;
       }
 
@@ -137,10 +137,10 @@ module _ {r₀ : Reader} {s b₀ : List ℕ} {r : Reader} {b : List ℕ} {at to 
   turn-last z =
       let v = eventNumber (x .answer .event) in
       let n : length (take to b) ≡ to = length-take-le to b (w .room) in
-      let u : Out r₀ s (length b₀) (x .reader) v at (take to b) =
-      subst (λ (l : List ℕ). Out r₀ s (length b₀) (x .reader) v at l) (append-nil (take to b))
-      (subst (λ (k : ℕ). Out r₀ s (length b₀) (x .reader) v k (take to b ++ [])) (add-zero at)
-      (w .right (x .reader) v 0 [] (last r (drop at s) (length b - to) x q z))) in
+      let u : PartOut r₀ s (length b₀) (x .reader) v at (take to b) =
+      subst (λ (l : List ℕ). PartOut r₀ s (length b₀) (x .reader) v at l) (append-nil (take to b))
+      (subst (λ (k : ℕ). PartOut r₀ s (length b₀) (x .reader) v k (take to b ++ [])) (add-zero at)
+      (w .right (x .reader) v 0 [] (call-last r (drop at s) (length b - to) x q z))) in
       let still : take to b ≡ [] → (to ≡ 0) × (b ≡ b₀) =
       λ e. (sym n ∙ ap length e, w .written ∙ ap (placed b₀ 0) e ∙ placed-nil b₀ 0) in
       record {

@@ -12,13 +12,13 @@ use Rattle.record.specs.declared.Event.the-variants.{Nothing, Message, Refusal}
 abbrev pub occurs : Event → ℕ
 occurs e = byEvent e 0 (λ id d n. 1) (λ v id n. 1)
 
-abbrev pub raised : Rec → List ℕ → ℕ
-raised r [] = 0
-raised r (b ∷ bs) = cond (ltb (r .fed) limit) (occurs (eventOf r b) + raised (stepped r b) bs) 0
+abbrev pub eventCount : Rec → List ℕ → ℕ
+eventCount r [] = 0
+eventCount r (b ∷ bs) = cond (ltb (r .fed) limit) (occurs (eventOf r b) + eventCount (stepped r b) bs) 0
 
 -- by a fresh reader: where there is none, no event is raised
 abbrev pub countOf : Fresh → List ℕ → ℕ
-countOf (made r) s = raised r s
+countOf (made r) s = eventCount r s
 countOf (refused v) s = 0
 
 -- of a private function: an event in memory

@@ -28,22 +28,22 @@ listingOf (made r) s = text r s
 listingOf (refused v) s = []
 
 -- a part of a listing: the record where it stops, 3 where the next byte can't be counted and else 0, the bytes taken, the lines
-pub record Piece : Type 0 where
+pub record Segment : Type 0 where
   pub after : Rec
   pub refusal : ℕ
   pub taken : ℕ
   pub lines : List ℕ
 
-abbrev pub ending : ℕ → Rec → Piece
+abbrev pub ending : ℕ → Rec → Segment
 ending v r = record { after = r; refusal = v; taken = 0; lines = [] }
 
 -- one byte more in front, and its line
-abbrev pub byteAhead : List ℕ → Piece → Piece
+abbrev pub byteAhead : List ℕ → Segment → Segment
 byteAhead l p = record { after = p .after; refusal = p .refusal; taken = suc (p .taken); lines = l ++ p .lines }
 
 -- as many bytes as can be listed while there is room for a line of any length
-abbrev pub piece : ℕ → Rec → List ℕ → Piece
-piece room r [] = ending 0 r
-piece room r (b ∷ bs) =
+abbrev pub segment : ℕ → Rec → List ℕ → Segment
+segment room r [] = ending 0 r
+segment room r (b ∷ bs) =
     let l = lineOf (r .fed) (eventOf r b) in
-    cond (ltb room longestEvent) (ending 0 r) (cond (ltb (r .fed) limit) (byteAhead l (piece (room - length l) (stepped r b) bs)) (ending 3 r))
+    cond (ltb room longestEvent) (ending 0 r) (cond (ltb (r .fed) limit) (byteAhead l (segment (room - length l) (stepped r b) bs)) (ending 3 r))

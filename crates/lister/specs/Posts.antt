@@ -14,23 +14,27 @@ use Rattle.record.specs.View.{view}
 use Rattle.record.specs.declared.InPlace.{InPlace}
 use Rattle.listing.specs.Text.{eventLine, totalOf}
 use Rattle.lister.specs.declared.Part.{Part}
-use Rattle.lister.specs.Listing.{piece}
-use Rattle.lister.specs.Counting.{raised}
+use Rattle.lister.specs.Listing.{Segment, segment}
+use Rattle.lister.specs.Counting.{eventCount}
 
--- a part of a listing: refused by 1 or 2, nothing is listed, and else a piece. Of question 3 the piece says where it stops
-abbrev pub PartPost : Reader → List ℕ → List ℕ → Part → List ℕ → Type 0
-PartPost r s b x b′ =
-    Asked (view r) ⊥ (λ v. (x .reader ≡ r) × (x .refusal ≡ v) × (x .taken ≡ 0) × (x .length ≡ 0) × (b′ ≡ b))
-    (let p = piece (length b) (view r) s in
+-- a part of a listing that is this segment, and the buffer before and after it
+abbrev pub PartIs : Segment → Part → List ℕ → List ℕ → Type 0
+PartIs p x b b′ =
     (view (x .reader) ≡ p .after)
     × (x .refusal ≡ p .refusal)
     × (x .taken ≡ p .taken)
     × (x .length ≡ length (p .lines))
-    × (b′ ≡ placed b 0 (p .lines)))
+    × (b′ ≡ placed b 0 (p .lines))
+
+-- a part of a listing: refused by 1 or 2, nothing is listed, and else a segment. Of question 3 the segment says where it stops
+abbrev pub PartPost : Reader → List ℕ → List ℕ → Part → List ℕ → Type 0
+PartPost r s b x b′ =
+    Asked (view r) ⊥ (λ v. (x .reader ≡ r) × (x .refusal ≡ v) × (x .taken ≡ 0) × (x .length ≡ 0) × (b′ ≡ b))
+    (PartIs (segment (length b) (view r) s) x b b′)
 
 -- how many events the bytes raise: refused by 1 or 2, none
 abbrev pub CountPost : Reader → List ℕ → ℕ → Type 0
-CountPost r s n = Asked (view r) ⊥ (λ v. n ≡ 0) (n ≡ raised (view r) s)
+CountPost r s n = Asked (view r) ⊥ (λ v. n ≡ 0) (n ≡ eventCount (view r) s)
 
 -- what a program prints that lists in parts, as its bytes come: s is offered, m is yet to come. The lines of each part; and the
 -- total, once there is nothing to come or the next byte can't be counted

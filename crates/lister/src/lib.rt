@@ -27,9 +27,6 @@ pub struct Part {
     pub length: usize,
 }
 
-// The length of the longestEvent line of an event.
-const LONGEST: usize = 29;
-
 // Before the first call: the record but for its array, and nothing taken.
 fn begin(r: Reader) -> InPlace
     ensures { λ x. ⌜ x ≡ untaken r ⌝ }

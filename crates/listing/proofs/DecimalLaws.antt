@@ -8,7 +8,7 @@ use native.Mathlib.Omega.{arith}
 use borrow.Author.Tests.{lt-ltb, le-ltb, ltb-true, ltb-false}
 use lib.Dec.{ltb}
 use lib.ListN.{length, length-append}
-use Rattle.listing.specs.Text.{blank, digit, decimalIn, decimal, decimals, digits}
+use Rattle.listing.specs.Text.{space, digit, decimalIn, decimal, decimals, countDigits}
 
 -- as many divisions as the number are enough, and more change nothing
 enough : (j k n : ℕ) → n ≤ j → n ≤ k → decimalIn j n ≡ decimalIn k n
@@ -51,14 +51,14 @@ decimal-length (suc k) n h =
     by false e l = omega (arith, large-length n (ltb-false n 10 e))
 
 -- of a count
-pub decimal-short : (n : ℕ) → n < 10 ^ digits → length (decimal n) ≤ digits
-decimal-short n h = decimal-length (digits - 1) n h
+pub decimal-short : (n : ℕ) → n < 10 ^ countDigits → length (decimal n) ≤ countDigits
+decimal-short n h = decimal-length (countDigits - 1) n h
 
 -- none, and one before the others
 pub decimals-nil : decimals [] ≡ []
 unfolding decimals
 decimals-nil = refl
 
-pub decimals-cons : (n : ℕ) (ns : List ℕ) → decimals (n ∷ ns) ≡ (blank ∷ decimal n) ++ decimals ns
+pub decimals-cons : (n : ℕ) (ns : List ℕ) → decimals (n ∷ ns) ≡ (space ∷ decimal n) ++ decimals ns
 unfolding decimals
 decimals-cons n ns = refl

@@ -5,8 +5,8 @@ use Prim.Native.Nat.{ℕ, zero, suc, _+_, _*_, _/_, _%_}
 use lib.Dec.{ltb}
 use Rattle.line.specs.Record.{Rec}
 
-abbrev pub blank : ℕ
-blank = 32
+abbrev pub space : ℕ
+space = 32
 
 abbrev pub newline : ℕ
 newline = 10
@@ -31,15 +31,15 @@ hexDigit n = cond (ltb n 10) (48 + n) (55 + n)
 abbrev pub hexadecimal : ℕ → List ℕ
 hexadecimal b = hexDigit (b / 16) ∷ hexDigit (b % 16) ∷ []
 
--- numbers in decimal, a blank before each
+-- numbers in decimal, a space before each
 unfoldable pub decimals : List ℕ → List ℕ
 decimals [] = []
-decimals (n ∷ ns) = (blank ∷ decimal n) ++ decimals ns
+decimals (n ∷ ns) = (space ∷ decimal n) ++ decimals ns
 
 -- offset, identifier, number (0 if a message was given), bytes closed
 unfoldable pub eventLine : ℕ → ℕ → ℕ → ℕ → List ℕ
 eventLine offset id number closed =
-    decimal offset ++ ((blank ∷ hexadecimal id) ++ (decimals (number ∷ closed ∷ []) ++ (newline ∷ [])))
+    decimal offset ++ ((space ∷ hexadecimal id) ++ (decimals (number ∷ closed ∷ []) ++ (newline ∷ [])))
 
 -- "total", then fed, accepted, refused, outside, pending
 unfoldable pub totalLine : ℕ → ℕ → ℕ → ℕ → ℕ → List ℕ
@@ -51,12 +51,12 @@ abbrev pub totalOf : Rec → List ℕ
 totalOf r = totalLine (r .fed) (r .accepted) (r .refused) (r .outside) (r .pending)
 
 -- the digits of the largest count
-abbrev pub digits : ℕ
-digits = 10
+abbrev pub countDigits : ℕ
+countDigits = 10
 
 -- the longest lines: of an event, whose number has three digits, and of the total
 abbrev pub longestEvent : ℕ
-longestEvent = 2 * digits + 9
+longestEvent = 2 * countDigits + 9
 
 abbrev pub longestTotal : ℕ
-longestTotal = 5 * digits + 11
+longestTotal = 5 * countDigits + 11

@@ -9,15 +9,15 @@ ghost use lib.ListN.{length};
 ghost use Rattle.octets.specs.Placing.{placed};
 ghost use Rattle.octets.specs.Delivery.{writtenOf, filledOf, Counts};
 ghost use Rattle.record.specs.View.{view};
-ghost use Rattle.listing.specs.Text.{blank, decimal, hexDigit, decimals, eventLine, totalLine, totalOf, longestEvent, longestTotal};
+ghost use Rattle.listing.specs.Text.{space, decimal, hexDigit, decimals, eventLine, totalLine, totalOf, longestEvent, longestTotal};
 
-// The digits of the largest count.
-const DIGITS: usize = 10;
+// The decimal digits of the largest count.
+const COUNT_DIGITS: usize = 10;
 
 // The lengths of the longest lines: of an event, and of the total.
-pub const LONGEST_EVENT: usize = 2 * DIGITS + 9;
+pub const LONGEST_EVENT: usize = 2 * COUNT_DIGITS + 9;
 
-pub const LONGEST_TOTAL: usize = 5 * DIGITS + 11;
+pub const LONGEST_TOTAL: usize = 5 * COUNT_DIGITS + 11;
 
 // Puts a number in decimal at a place and returns the place after it.
 fn put_decimal(n: Count, buf: &mut [u8], at: usize) -> usize
@@ -33,16 +33,16 @@ fn put_decimal(n: Count, buf: &mut [u8], at: usize) -> usize
     last + 1
 }
 
-// Puts a blank and a number, and returns the place after them.
+// Puts a space and a number, and returns the place after them.
 fn put_next(n: Count, buf: &mut [u8], at: usize) -> usize
-    requires { ⌜ at + length (blank ∷ decimal n) ≤ length (now buf) ⌝ }
-    ensures { λ r. ⌜ (r ≡ at + length (blank ∷ decimal n)) × (now (buf .exit) ≡ placed (now (buf .entry)) at (blank ∷ decimal n)) ⌝ }
+    requires { ⌜ at + length (space ∷ decimal n) ≤ length (now buf) ⌝ }
+    ensures { λ r. ⌜ (r ≡ at + length (space ∷ decimal n)) × (now (buf .exit) ≡ placed (now (buf .entry)) at (space ∷ decimal n)) ⌝ }
 {
     buf[at] = b' ';
     put_decimal(n, buf, at + 1)
 }
 
-// Puts numbers, a blank before each, and returns the place after them.
+// Puts numbers, a space before each, and returns the place after them.
 fn put_decimals(numbers: &[Count], buf: &mut [u8], at: usize) -> usize
     requires { ⌜ at + length (decimals (now numbers)) ≤ length (now buf) ⌝ }
     ensures { λ r. ⌜ (r ≡ at + length (decimals (now (numbers .entry))))

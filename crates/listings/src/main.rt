@@ -14,6 +14,7 @@
 // A call's line has its number and its answer; of 09 that is refusal, taken and length, then the five counts afterwards. Where it
 // fills a buffer, that follows, of Z before the call, up to four bytes past the room.
 use octets::Written;
+use record::Count;
 use record::Head;
 use record::Reader;
 
@@ -26,7 +27,7 @@ fn octet(n: u8) {
     number(n as u64);
 }
 
-fn word(n: u32) {
+fn word(n: Count) {
     number(n as u64);
 }
 
@@ -48,11 +49,11 @@ fn text(buf: &[u8], n: usize) {
 }
 
 // A number of the line: 0 is the first.
-fn given(s: &[u8], i: usize) -> u32 {
+fn given(s: &[u8], i: usize) -> Count {
     if 4 < i {
         return 0;
     }
-    numbers::u32_at(s, 5 + 4 * i)
+    numbers::u32_at(s, 5 + 4 * i) as Count
 }
 
 fn run_event(s: &[u8], buf: &mut [u8]) {

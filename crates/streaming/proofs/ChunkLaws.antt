@@ -6,17 +6,16 @@ use native.Mathlib.Omega.{arith}
 use borrow.Author.Tests.{le-ltb}
 use lib.ListN.{length, take, drop}
 use lib.Seq.{drop-drop}
-use Rattle.octets.specs.Placing.{placed}
 use Rattle.record.specs.declared.Reader.{Reader}
 use Rattle.record.specs.View.{view}
 use Rattle.octets.specs.Delivery.{Counts}
 use Rattle.listing.specs.Text.{longestEvent}
 use Rattle.lister.specs.declared.Part.{Part}
-use Rattle.lister.specs.Listing.{piece}
-use Rattle.lister.specs.Posts.{PartPost, Good}
+use Rattle.lister.specs.Listing.{segment}
+use Rattle.lister.specs.Posts.{PartIs, PartPost, Good}
 use Rattle.lister.proofs.PartLaws.{rest-of, taken-of-rest, part-is, part-good}
 use Rattle.streaming.specs.Through.{Through, until, through}
-use Rattle.streaming.proofs.ThroughLaws.{through-piece, piece-last}
+use Rattle.streaming.proofs.ThroughLaws.{through-segment, segment-last}
 
 -- the call lists s from a place on
 pub record Went (g : Reader) (s : List ℕ) (at : ℕ) (x : Part) : Type 0 where
@@ -26,18 +25,18 @@ pub record Went (g : Reader) (s : List ℕ) (at : ℕ) (x : Part) : Type 0 where
   -- where it took nothing, nothing more can be listed
   pub end : x .taken ≡ 0 → until (x .refusal) (view (x .reader)) ≡ through (view g) (drop at s)
 
-pub went : (g : Reader) (s : List ℕ) (at : ℕ) (b : List ℕ) (x : Part) (b′ : List ℕ) → Good g → longestEvent ≤ length b → at ≤ length s
+pub took : (g : Reader) (s : List ℕ) (at : ℕ) (b : List ℕ) (x : Part) (b′ : List ℕ) → Good g → longestEvent ≤ length b → at ≤ length s
     → PartPost g (take (length s - at) (drop at s)) b x b′ → x .taken ≤ length (take (length s - at) (drop at s)) → Counts (x .length) b′
     → Went g s at x
-went g s at b x b′ h k w q f c =
+took g s at b x b′ h k w q f c =
     record {
       good = part-good g d b x b′ q′ c h;
       within = taken-of-rest s at (x .taken) w f;
       left =
-          through-piece d (length b) (view g)
+          through-segment d (length b) (view g)
           ∙ sym (λ i. through (is .0 i) (drop (is .2 i) d))
           ∙ ap (through (view (x .reader))) (drop-drop (x .taken) at s);
-      end = λ z. (λ i. until (is .1 i) (is .0 i)) ∙ piece-last d (length b) (view g) (le-ltb (length b) longestEvent k) (sym (is .2) ∙ z);
+      end = λ z. (λ i. until (is .1 i) (is .0 i)) ∙ segment-last d (length b) (view g) (le-ltb (length b) longestEvent k) (sym (is .2) ∙ z);
     }
   where
     d : List ℕ
@@ -46,11 +45,7 @@ went g s at b x b′ h k w q f c =
     q′ : PartPost g d b x b′
     q′ = subst (λ (z : List ℕ). PartPost g z b x b′) (rest-of s at) q
 
-    is : (view (x .reader) ≡ piece (length b) (view g) d .after)
-        × (x .refusal ≡ piece (length b) (view g) d .refusal)
-        × (x .taken ≡ piece (length b) (view g) d .taken)
-        × (x .length ≡ length (piece (length b) (view g) d .lines))
-        × (b′ ≡ placed b 0 (piece (length b) (view g) d .lines))
+    is : PartIs (segment (length b) (view g) d) x b b′
     is = part-is g d b x b′ q′ c h
 
 -- a chunk listed up to a place: what is left to do is what was to be done

@@ -21,11 +21,11 @@ use Rattle.streaming.specs.declared.Chunk.{Chunk}
 use Rattle.streaming.specs.declared.Reads.{Reads}
 use Rattle.streaming.specs.declared.Ended.{Ended}
 use Rattle.streaming.specs.Through.{Through, until, through}
-use Rattle.streaming.specs.Posts.{seen, ReadsPost, TotalPost, InputPost}
+use Rattle.streaming.specs.Posts.{throughOf, ReadsPost, TotalPost, InputPost}
 use Rattle.streaming.proofs.ThroughLaws.{through-more, through-fed, through-limit, through-below}
 
 -- between two reads: the bytes of those before were all counted
-pub record Between (r : Reader) (c : Chunk) (bytes lines : List ℕ) (read : ℕ) : Type 0 where
+pub record ReadSoFar (r : Reader) (c : Chunk) (bytes lines : List ℕ) (read : ℕ) : Type 0 where
   pub long : 65536 ≡ length bytes
   pub room : 65536 ≡ length lines
   pub good : Good (c .reader)
@@ -34,26 +34,26 @@ pub record Between (r : Reader) (c : Chunk) (bytes lines : List ℕ) (read : ℕ
   pub refusal : c .refusal ≡ 0
   pub count : length taken ≡ read
 
-pub before : {r : Reader} {c : Chunk} {bytes lines : List ℕ} {read : ℕ} (w : Between r c bytes lines read)
-    → seen c ≡ through (view r) (w .taken)
+pub before : {r : Reader} {c : Chunk} {bytes lines : List ℕ} {read : ℕ} (w : ReadSoFar r c bytes lines read)
+    → throughOf c ≡ through (view r) (w .taken)
 before {c = c} w = ap (λ (v : ℕ). until v (view (c .reader))) (w .refusal) ∙ w .after
 
 -- the bytes are not more than can be counted
-pub counted : (r g : Reader) (l : List ℕ) → r .head .fed ≡ 0 → until 0 (view g) ≡ through (view r) l → length l ≤ limit
-counted r g l z a =
+pub countable : (r g : Reader) (l : List ℕ) → r .head .fed ≡ 0 → until 0 (view g) ≡ through (view r) l → length l ≤ limit
+countable r g l z a =
     let q : through (view r) l .refusal ≡ 0 = sym (ap (λ (t : Through). t .refusal) a) in
     omega (arith, through-fed l (view r) q, through-limit l (view r) (omega arith) q)
 
 -- a chunk more
-pub further : (r g : Reader) (l s : List ℕ) (x : Chunk) → until 0 (view g) ≡ through (view r) l → seen x ≡ through (view g) s
-    → seen x ≡ through (view r) (l ++ s)
+pub further : (r g : Reader) (l s : List ℕ) (x : Chunk) → until 0 (view g) ≡ through (view r) l → throughOf x ≡ through (view g) s
+    → throughOf x ≡ through (view r) (l ++ s)
 further r g l s x a e =
     e
     ∙ ap (λ (t : Through). through (t .after) s) a
     ∙ sym (through-more l s (view r) (sym (ap (λ (t : Through). t .refusal) a)))
 
 -- the count of bytes is nearer to its limit
-pub nearer : (g : Reader) (s : List ℕ) (x : Chunk) → seen x ≡ through (view g) s → x .refusal ≡ 0 → 0 < length s
+pub nearer : (g : Reader) (s : List ℕ) (x : Chunk) → throughOf x ≡ through (view g) s → x .refusal ≡ 0 → 0 < length s
     → limit - x .reader .head .fed < limit - g .head .fed
 nearer g s x e z n =
     let q : through (view g) s .refusal ≡ 0 = sym (ap (λ (t : Through). t .refusal) e) ∙ z in
@@ -70,8 +70,8 @@ some n (pos k) e h = let p = leb-false k 0 e in omega (arith, p)
 some n (negsuc k) e h = absurd (let g : _≡_ {A = ℕ} 0 1 = cc in omega arith)
 
 -- the reads with the total of their reader
-pub ended : (r : Rec) (x : Reads) (e : Ended) → ReadsPost r x → TotalPost x e → InputPost r e
-ended r x e p t =
+pub totalled : (r : Rec) (x : Reads) (e : Ended) → ReadsPost r x → TotalPost x e → InputPost r e
+totalled r x e p t =
     record {
       bytes = p .bytes;
       read = p .read ∙ sym (t .read);

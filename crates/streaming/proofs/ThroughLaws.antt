@@ -9,26 +9,26 @@ use lib.Dec.{ltb}
 use lib.ListN.{length, drop}
 use Rattle.line.specs.Record.{Rec, limit, eventOf, stepped}
 use Rattle.listing.specs.Text.{totalOf, longestEvent}
-use Rattle.lister.specs.Listing.{lineOf, text, piece}
-use Rattle.lister.proofs.PieceLaws.{piece-by}
+use Rattle.lister.specs.Listing.{lineOf, text, segment}
+use Rattle.lister.proofs.SegmentLaws.{segment-by}
 use Rattle.streaming.specs.Through.{Through, until, through}
 
 -- one byte, by whether it can be counted; x is what the others come to
 abbrev led : Rec → Through → Bool → Through
 led r x t = cond t x (until 3 r)
 
--- a piece, and then what it leaves
-pub through-piece : (l : List ℕ) (room : ℕ) (r : Rec)
-    → through r l ≡ through (piece room r l .after) (drop (piece room r l .taken) l)
-through-piece =
-    piece-by (λ room r l p. through r l ≡ through (p .after) (drop (p .taken) l)) (λ room r. refl) (λ room r l q. refl) (λ room r b bs k. refl)
+-- a segment, and then what it leaves
+pub through-segment : (l : List ℕ) (room : ℕ) (r : Rec)
+    → through r l ≡ through (segment room r l .after) (drop (segment room r l .taken) l)
+through-segment =
+    segment-by (λ room r l p. through r l ≡ through (p .after) (drop (p .taken) l)) (λ room r. refl) (λ room r l q. refl) (λ room r b bs k. refl)
     (λ room r b bs p k h. ap (led r (through (stepped r b) bs)) k ∙ h)
 
--- a piece that takes nothing, though there is room, stands at the end or at a byte that can't be counted
-pub piece-last : (l : List ℕ) (room : ℕ) (r : Rec) → ltb room longestEvent ≡ false → piece room r l .taken ≡ 0
-    → until (piece room r l .refusal) (piece room r l .after) ≡ through r l
-piece-last =
-    piece-by (λ room r l p. ltb room longestEvent ≡ false → p .taken ≡ 0 → until (p .refusal) (p .after) ≡ through r l) (λ room r q h. refl)
+-- a segment that takes nothing, though there is room, stands at the end or at a byte that can't be counted
+pub segment-last : (l : List ℕ) (room : ℕ) (r : Rec) → ltb room longestEvent ≡ false → segment room r l .taken ≡ 0
+    → until (segment room r l .refusal) (segment room r l .after) ≡ through r l
+segment-last =
+    segment-by (λ room r l p. ltb room longestEvent ≡ false → p .taken ≡ 0 → until (p .refusal) (p .after) ≡ through r l) (λ room r q h. refl)
     (λ room r l t q h. absurd (let g : _≡_ {A = ℕ} 0 1 = cc in omega arith))
     (λ room r b bs k q h. ap (led r (through (stepped r b) bs)) (sym k)) (λ room r b bs p k i q h. absurd (omega arith))
 

@@ -19,13 +19,13 @@ use Rattle.streaming.specs.declared.Ended.{Ended}
 use Rattle.streaming.specs.Through.{Through, until, through}
 
 -- what is seen of a chunk
-abbrev pub seen : Chunk → Through
-seen x = until (x .refusal) (view (x .reader))
+abbrev pub throughOf : Chunk → Through
+throughOf x = until (x .refusal) (view (x .reader))
 
 -- a chunk s: all of its bytes, or up to one that can't be counted. Where a write failed, the reader is the one before the chunk
 pub record ChunkPost (r : Reader) (s : List ℕ) (x : Chunk) : Type 0 where
   pub good : Good (x .reader)
-  pub all : x .written ≡ true → seen x ≡ through (view r) s
+  pub all : x .written ≡ true → throughOf x ≡ through (view r) s
   pub cut : x .written ≡ false → (x .reader ≡ r) × (x .refusal ≡ 0)
 
 -- the reads of an input: there are bytes, as many as the reads brought, such that the reader is the one after them. Unless a write
@@ -33,7 +33,7 @@ pub record ChunkPost (r : Reader) (s : List ℕ) (x : Chunk) : Type 0 where
 pub record ReadsPost (r : Rec) (x : Reads) : Type 0 where
   pub bytes : List ℕ
   pub read : length bytes ≡ x .read
-  pub after : seen (x .chunk) ≡ through r bytes
+  pub after : throughOf (x .chunk) ≡ through r bytes
   pub last : x .chunk .written ≡ true → x .chunk .refusal ≡ 0 → Status (x .last)
 
 -- the same reads, with the total of their reader

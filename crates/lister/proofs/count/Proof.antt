@@ -1,4 +1,4 @@
--- `count` meets its contract. The loop's invariant is `Counted`; each turn takes a byte or is the last.
+-- `count` meets its contract. The loop's invariant is `Tally`; each turn takes a byte or is the last.
 use mathlib.Core.Path.{_≡_, subst}
 use mathlib.Core.List.{List}
 use Prim.Native.Nat.{ℕ, _+_, _-_, _^_, _≤_, _<_}
@@ -11,12 +11,12 @@ use Rattle.record.specs.Posts.{FeedPost, InPlacePost, fedOf}
 use Rattle.record.specs.declared.InPlace.{InPlace}
 use Rattle.reader.proofs.Giving.{feeds}
 use Rattle.lister.specs.Posts.{CountPost}
-use Rattle.lister.proofs.CountLaws.{Counted, counted-none, counted-within, counted-more, counted-last}
+use Rattle.lister.proofs.CountLaws.{Tally, tally-none, tally-within, tally-more, tally-last}
 use Rattle.lister.proofs.count.Statement.{statement}
 use Rattle.lister.proofs.count.Tie as tie
 
 abbrev Inv-loop : tie.InvT-loop
-Inv-loop s x₀ d₀ at₀ events₀ x d at events = Counted (recordOf (x₀ .head) (x₀ .latest) d₀) s (recordOf (x .head) (x .latest) d) at events
+Inv-loop s x₀ d₀ at₀ events₀ x d at events = Tally (recordOf (x₀ .head) (x₀ .latest) d₀) s (recordOf (x .head) (x .latest) d) at events
 
 abbrev μ-loop : tie.MeasureT-loop
 μ-loop s x₀ d₀ at₀ events₀ x d at events = length s - at
@@ -48,7 +48,7 @@ begin-requires : tie.Need-begin-requires Inv-loop μ-loop
 begin-requires c κs = search needs
 
 loop-holds : tie.Need-loop-holds Inv-loop μ-loop
-loop-holds c = counted-none _ _ (start-whole (c .before .before .before))
+loop-holds c = tally-none _ _ (start-whole (c .before .before .before))
 
 sub-feed-in-place : tie.Need-sub-feed-in-place Inv-loop μ-loop
 sub-feed-in-place c = c .before .loop .inv .within
@@ -68,7 +68,7 @@ returns c =
     let p = f .before .before .before in
     let x = p .before .before .before .before .args in
     subst (λ (y : InPlace). CountPost (recordOf (y .head) (y .latest) (x .r .bytes)) (x .s .now) (p .loop .events)) (p .before .before .begin .ensures)
-    (counted-last (p .loop .inv) (fedOf (f .feed-in-place .result) (f .feed-in-place .last .1 .1 .0)) (fed f) (c .if1 .taken))
+    (tally-last (p .loop .inv) (fedOf (f .feed-in-place .result) (f .feed-in-place .last .1 .1 .0)) (fed f) (c .if1 .taken))
 
 -- where something was taken it lies within the slice
 some : (c : tie.Else1 Inv-loop μ-loop) → 0 < c .before .before .feed-in-place .result .taken
@@ -80,7 +80,7 @@ within : (c : tie.Else1 Inv-loop μ-loop)
     p .loop .at + f .feed-in-place .result .taken ≤ length (p .before .before .before .before .args .s .now)
 within c =
     let f = c .before .before in
-    counted-within (f .before .before .before .loop .inv) (fedOf (f .feed-in-place .result) (f .feed-in-place .last .1 .1 .0)) (fed f)
+    tally-within (f .before .before .before .loop .inv) (fedOf (f .feed-in-place .result) (f .feed-in-place .last .1 .1 .0)) (fed f)
 
 add-at : tie.Need-add-at Inv-loop μ-loop
 add-at c =
@@ -105,7 +105,7 @@ loop-again c =
     let f = e .before .before in
     let p = f .before .before .before in
     let a = f .feed-in-place .last .1 .1 .0 in
-    counted-more (p .loop .inv) (fedOf (f .feed-in-place .result) a) (fed f) (c .raises .result) (some e)
+    tally-more (p .loop .inv) (fedOf (f .feed-in-place .result) a) (fed f) (c .raises .result) (some e)
     (f .feed-in-place .ensures .whole (p .loop .inv .whole)) (c .raises .ensures .0) (c .raises .ensures .1)
 
 pub count-spec : {M : Type 1} → statement M

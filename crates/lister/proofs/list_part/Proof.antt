@@ -12,7 +12,7 @@ use Rattle.record.specs.declared.InPlace.{InPlace}
 use Rattle.reader.proofs.Giving.{feeds}
 use Rattle.listing.specs.Text.{longestEvent}
 use Rattle.lister.specs.Posts.{PartPost}
-use Rattle.lister.proofs.FeedLaws.{lineFrom, offered}
+use Rattle.lister.proofs.FeedLaws.{lineFrom, offeredIn}
 use Rattle.lister.proofs.Turns.{Turn, turn-none, part-offered, offer-within, part-placed, turn-within, turn-room, turn-fed, turn-more, turn-last}
 use Rattle.lister.proofs.list_part.Statement.{statement}
 use Rattle.lister.proofs.list_part.Tie as tie
@@ -48,7 +48,7 @@ bounds c =
 fed : (c : tie.After-feed-in-place Inv-loop μ-loop)
     → let p = c .before .before .before .before in
     let s = p .before .before .before .before .before .args .s .now in
-    FeedPost (recordOf (p .loop .x .head) (p .loop .x .latest) (p .loop .d)) (offered (length (p .loop .buf) - p .loop .to) (drop (p .loop .at) s))
+    FeedPost (recordOf (p .loop .x .head) (p .loop .x .latest) (p .loop .d)) (offeredIn (length (p .loop .buf) - p .loop .to) (drop (p .loop .at) s))
     (fedOf (c .feed-in-place .result) (c .feed-in-place .last .1 .1 .0))
 fed c =
     let o = c .before .before .before in
@@ -58,7 +58,7 @@ fed c =
     let room = length (p .loop .buf) - p .loop .to in
     let x = c .feed-in-place .result in
     let a = c .feed-in-place .last .1 .1 .0 in
-    feeds (recordOf (p .loop .x .head) (p .loop .x .latest) (p .loop .d)) a (offered room (drop at s)) x (p .loop .inv .1)
+    feeds (recordOf (p .loop .x .head) (p .loop .x .latest) (p .loop .d)) a (offeredIn room (drop at s)) x (p .loop .inv .1)
     (subst (λ (z : List ℕ). InPlacePost (p .loop .x .head) (p .loop .x .latest) (p .loop .d) a z x)
     (part-offered s at room (o .offer .result) (o .offer .ensures)) (c .feed-in-place .ensures))
 

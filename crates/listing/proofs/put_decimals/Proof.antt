@@ -9,18 +9,18 @@ use lib.ListN.{length, drop, getD, length-append}
 use lib.Seq.{drop-cons, drop-length}
 use Rattle.octets.specs.Placing.{placed}
 use Rattle.octets.proofs.PlacingLaws.{placed-nil, placed-more, length-placed}
-use Rattle.listing.specs.Text.{blank, decimal, decimals}
+use Rattle.listing.specs.Text.{space, decimal, decimals}
 use Rattle.listing.proofs.DecimalLaws.{decimals-nil, decimals-cons}
 use Rattle.listing.proofs.put_decimals.Statement.{statement}
 use Rattle.listing.proofs.put_decimals.Tie as tie
 
 -- the number at i, and those after it
-first : (s : List ℕ) (i : ℕ) → i < length s → decimals (drop i s) ≡ (blank ∷ decimal (getD s i 0)) ++ decimals (drop (i + 1) s)
+first : (s : List ℕ) (i : ℕ) → i < length s → decimals (drop i s) ≡ (space ∷ decimal (getD s i 0)) ++ decimals (drop (i + 1) s)
 first s i h = rw add-one (ap decimals (drop-cons s i 0 h) ∙ decimals-cons (getD s i 0) (drop (suc i) s))
 
 first-length : (s : List ℕ) (i : ℕ) → i < length s
-    → length (decimals (drop i s)) ≡ length (blank ∷ decimal (getD s i 0)) + length (decimals (drop (i + 1) s))
-first-length s i h = ap length (first s i h) ∙ length-append (blank ∷ decimal (getD s i 0)) (decimals (drop (i + 1) s))
+    → length (decimals (drop i s)) ≡ length (space ∷ decimal (getD s i 0)) + length (decimals (drop (i + 1) s))
+first-length s i h = ap length (first s i h) ∙ length-append (space ∷ decimal (getD s i 0)) (decimals (drop (i + 1) s))
 
 abbrev Inv-loop : tie.InvT-loop
 Inv-loop numbers buf₀ at to₀ i₀ buf to i =
@@ -61,7 +61,7 @@ loop-again c =
     let g = l .before .before .before in
     let s = g .args .numbers .now in
     let i = l .loop .i in
-    let b : List ℕ = blank ∷ decimal (getD s i 0) in
+    let b : List ℕ = space ∷ decimal (getD s i 0) in
     let rest : List ℕ = decimals (drop (i + 1) s) in
     let h : i < length s = omega arith in
     let n = first-length s i h in

@@ -6,7 +6,7 @@ use native.Mathlib.Omega.{arith}
 use borrow.Author.Needs.{needs}
 use lib.ListN.{length}
 use Rattle.octets.specs.Placing.{placed}
-use Rattle.listing.specs.Text.{blank, newline, decimal, hexadecimal, decimals, longestEvent}
+use Rattle.listing.specs.Text.{space, newline, decimal, hexadecimal, decimals, longestEvent}
 use Rattle.listing.proofs.LineLaws.{event-length, event-longest, event-parts}
 use Rattle.listing.proofs.put_event.Statement.{statement}
 use Rattle.listing.proofs.put_event.Tie as tie
@@ -81,8 +81,8 @@ returns c =
     let l = event-length (x .offset) (x .id) (x .number) (x .closed) in
     let en : n ≡ length (decimal (x .offset)) = omega (arith, o .put-decimal .ensures .0) in
     let ek : k ≡ n + 3 + length (decimals ns) = d .put-decimals .ensures .0 in
-    let name : blank ∷ h1 .hex-digit .result ∷ h2 .hex-digit2 .result ∷ [] ≡ blank ∷ hexadecimal (x .id) =
-    λ i. blank ∷ h1 .hex-digit .ensures i ∷ h2 .hex-digit2 .ensures i ∷ [] in (
+    let name : space ∷ h1 .hex-digit .result ∷ h2 .hex-digit2 .result ∷ [] ≡ space ∷ hexadecimal (x .id) =
+    λ i. space ∷ h1 .hex-digit .ensures i ∷ h2 .hex-digit2 .ensures i ∷ [] in (
       omega arith,
       e .put2 .ensures .1
           ∙ ap (λ (z : List ℕ). placed z k (newline ∷ [])) (d .put-decimals .ensures .1)

@@ -1,11 +1,11 @@
--- `put_next` meets its contract: the number stands right after the blank.
+-- `put_next` meets its contract: the number stands right after the space.
 use mathlib.Core.Path.{_∙_}
 use Prim.Native.Nat.{_+_, _≤_}
 use native.Mathlib.Omega.{arith}
 use borrow.Author.Needs.{needs}
 use lib.ListN.{length, length-set}
 use Rattle.octets.proofs.PlacingLaws.{placed-cons}
-use Rattle.listing.specs.Text.{blank, decimal}
+use Rattle.listing.specs.Text.{space, decimal}
 use Rattle.listing.proofs.put_next.Statement.{statement}
 use Rattle.listing.proofs.put_next.Tie as tie
 
@@ -27,7 +27,7 @@ returns c =
     let g = p .before .before .before in
     let a = g .args in
     let h : a .at + 1 + length (decimal (a .n)) ≤ length (a .buf .now) = omega (arith, g .pre) in
-    (omega (arith, p .put-decimal .ensures .0), p .put-decimal .ensures .1 ∙ placed-cons (a .buf .now) (a .at) blank (decimal (a .n)) h)
+    (omega (arith, p .put-decimal .ensures .0), p .put-decimal .ensures .1 ∙ placed-cons (a .buf .now) (a .at) space (decimal (a .n)) h)
 
 pub put-next-spec : {M : Type 1} → statement M
 put-next-spec =

@@ -7,7 +7,7 @@ use lib.ListN.{length, drop, drop-of-length-le}
 use Rattle.record.specs.View.{view}
 use Rattle.listing.specs.Text.{longestEvent}
 use Rattle.streaming.specs.Through.{through}
-use Rattle.streaming.proofs.ChunkLaws.{Went, went, Partly}
+use Rattle.streaming.proofs.ChunkLaws.{Went, took, Partly}
 use Rattle.streaming.proofs.list_chunk.Statement.{statement}
 use Rattle.streaming.proofs.list_chunk.Tie as tie
 
@@ -31,7 +31,7 @@ listed c =
     let w = l .loop .inv in
     let k : longestEvent ≤ length (l .loop .lines) = omega (arith, w .same, a .pre .1) in
     let e = c .list-part .ensures in
-    went (l .loop .g) (a .args .s .now) (l .loop .at) (l .loop .lines) (c .list-part .result) (c .list-part .last .1 .1 .0)
+    took (l .loop .g) (a .args .s .now) (l .loop .at) (l .loop .lines) (c .list-part .result) (c .list-part .last .1 .1 .0)
     (w .good) k (w .within) (e .0) (e .1 .0) (e .1 .1)
 
 loop-holds : tie.Need-loop-holds Inv-loop μ-loop

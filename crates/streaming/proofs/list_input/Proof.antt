@@ -7,7 +7,7 @@ use Rattle.line.specs.Record.Fresh.{made, refused}
 use Rattle.record.specs.View.{view}
 use Rattle.lister.proofs.FreshLaws.{fresh-refused, fresh-good}
 use Rattle.streaming.specs.Posts.{InputPost, unreadOf}
-use Rattle.streaming.proofs.ReadsLaws.{ended, fresh-fed}
+use Rattle.streaming.proofs.ReadsLaws.{totalled, fresh-fed}
 use Rattle.streaming.proofs.list_input.Statement.{statement}
 use Rattle.streaming.proofs.list_input.Tie as tie
 
@@ -59,7 +59,7 @@ returns-2 c =
       good = λ r e.
           let v : view (x .reader) ≡ r = same (sym (w .0) ∙ e) in
           subst (λ (y : Rec). InputPost y (c .print-total .result)) v
-          (ended (view (x .reader)) (l .list-reads .result) (c .print-total .result) (l .list-reads .ensures) (c .print-total .ensures));
+          (totalled (view (x .reader)) (l .list-reads .result) (c .print-total .result) (l .list-reads .ensures) (c .print-total .ensures));
       bad = λ h. absurd (let n : ⊥ = omega (arith, f .fresh .ensures .bad h) in n);
     }
 

@@ -1,4 +1,4 @@
--- `list_reads` meets its contract. The loop's invariant is `Between`; each read but the last takes the count nearer to its limit.
+-- `list_reads` meets its contract. The loop's invariant is `ReadSoFar`; each read but the last takes the count nearer to its limit.
 use mathlib.Core.Bool.{true, false}
 use mathlib.Core.List.{List, [], _++_}
 use mathlib.Core.Path.{_≡_, refl, sym, ap, _∙_, subst}
@@ -18,13 +18,13 @@ use Rattle.record.specs.declared.Reader.{Reader}
 use Rattle.record.specs.View.{view}
 use Rattle.listing.specs.Text.{longestEvent}
 use Rattle.streaming.specs.Through.{Through, until, through}
-use Rattle.streaming.specs.Posts.{seen}
-use Rattle.streaming.proofs.ReadsLaws.{Between, before, further, counted, nearer, none, some}
+use Rattle.streaming.specs.Posts.{throughOf}
+use Rattle.streaming.proofs.ReadsLaws.{ReadSoFar, before, further, countable, nearer, none, some}
 use Rattle.streaming.proofs.list_reads.Statement.{statement}
 use Rattle.streaming.proofs.list_reads.Tie as tie
 
 abbrev Inv-loop : tie.InvT-loop
-Inv-loop c₀ bytes₀ lines₀ read₀ c bytes lines read = Between (c₀ .reader) c bytes lines read
+Inv-loop c₀ bytes₀ lines₀ read₀ c bytes lines read = ReadSoFar (c₀ .reader) c bytes lines read
 
 abbrev μ-loop : tie.MeasureT-loop
 μ-loop c₀ bytes₀ lines₀ read₀ c bytes lines read = limit - c .reader .head .fed
@@ -102,7 +102,7 @@ chunk c = take (c .before .before .before .count .result) (c .before .before .be
 -- the chunk is listed, whose lines were all written
 listed : (c : tie.After-list-chunk Inv-loop μ-loop) → c .list-chunk .result .written ≡ true
     → let l = c .before .before .before .before .before .before .before .before .before in
-    seen (c .list-chunk .result) ≡ through (view (l .before .before .before .args .first .reader)) (l .loop .inv .taken ++ chunk c)
+    throughOf (c .list-chunk .result) ≡ through (view (l .before .before .before .args .first .reader)) (l .loop .inv .taken ++ chunk c)
 listed c u =
     let l = c .before .before .before .before .before .before .before .before .before in
     further (l .before .before .before .args .first .reader) (l .loop .c .reader) (l .loop .inv .taken) (chunk c) (c .list-chunk .result) (l .loop .inv .after)
@@ -135,7 +135,7 @@ add-read c =
     let l = p .before .before .before .before .before .before .before .before .before in
     let r = l .before .before .before in
     let t = p .before .before .before in
-    let n = counted (r .args .first .reader) (l .loop .c .reader) (l .loop .inv .taken) (r .pre .1) (l .loop .inv .after) in
+    let n = countable (r .args .first .reader) (l .loop .c .reader) (l .loop .inv .taken) (r .pre .1) (l .loop .inv .after) in
     omega (arith, n, l .loop .inv .count, t .count .ensures .0 .0, long (t .before .before .before .before))
 
 returns-3 : tie.Need-returns-3 Inv-loop μ-loop
@@ -168,7 +168,7 @@ loop-again c =
     let p = c .before .before .before .before .before in
     let l = p .before .before .before .before .before .before .before .before .before in
     let u : p .list-chunk .result .written ≡ true = not-false _ (c .before .before .if2 .left) in
-    let v : until 0 (view (p .list-chunk .result .reader)) ≡ seen (p .list-chunk .result) =
+    let v : until 0 (view (p .list-chunk .result .reader)) ≡ throughOf (p .list-chunk .result) =
     ap (λ (n : ℕ). until n (view (p .list-chunk .result .reader))) (sym (c .if3 .left)) in
     record {
       long = long (p .before .before .before .before .before .before .before);
