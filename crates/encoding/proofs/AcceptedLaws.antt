@@ -1,18 +1,18 @@
 -- What acceptable data has, by its kind's row: an allowed length and fields in range. `row` is closed by computing the table.
 use mathlib.Core.Path.{_≡_, refl, sym, ap, _∙_}
-use mathlib.Core.Bool.{Bool, true, false, cond, _&&_, _||_, and-eq-true-iff}
+use mathlib.Core.Bool.{Bool, true, false, cond, _||_, and-eq-true-iff}
 use mathlib.Core.List.{List, [], _∷_}
 use mathlib.Core.Logic.{_⊎_, inl, inr}
 use mathlib.Core.Option.{some}
-use Prim.Native.Nat.{ℕ, zero, suc, _+_, _-_, _/_, _%_, _≤_, _<_}
+use Prim.Native.Nat.{ℕ, zero, suc, _+_, _<_}
 use native.Mathlib.Nat.{add-zero}
 use native.Mathlib.Omega.{arith}
-use borrow.Author.Tests.{eqb-true, leb-true}
-use lib.Dec.{eqb, leb}
+use borrow.Author.Tests.{eqb-true}
+use lib.Dec.{eqb}
 use lib.ListN.{length, drop}
 use lib.Seq.{drop-cons, drop-length}
-use Rattle.ranges.specs.Ranges.{byte, in52}
-use Rattle.kinds.specs.Kinds.{Row, table, rowIn, oneOf, only, entries, allows, lengthOk, content}
+use Rattle.ranges.specs.Ranges.{byte}
+use Rattle.kinds.specs.Kinds.{Row, table, rowIn, oneOf, only, allows, lengthOk, content}
 
 -- the refusal, by its length and its ranges
 abbrev answer : Bool → Bool → ℕ
@@ -50,18 +50,6 @@ one-length id a f d row h = elim (two-lengths id a a f d row h) [ inl e ↦ e | 
 pub either : (P : ℕ → Type 0) (id x : ℕ) (t : Bool) → P x → (t ≡ true → P id) → t || eqb id x ≡ true → P id
 either P id x true p rest e = rest refl
 either P id x false p rest e = rw (eqb-true id x e) p
-
--- 52h: up to 75 entries of 7 bytes
-pub entries-52 : (d : List ℕ) → content 0x52 d ≡ 0 → (length d % 7 ≡ 0) × (length d / 7 ≤ 75)
-unfolding table rowIn lengthOk allows
-entries-52 d h =
-    let n = length d - 0 in
-    let p = and-eq-true-iff (leb 0 (length d) && eqb (n % 7) 0 && leb (n / 7) 75) _ .0 (accepted-parts 0x52 (entries 0x52 0 7 75 in52) d refl h .0) in
-    let q = and-eq-true-iff (leb 0 (length d) && eqb (n % 7) 0) (leb (n / 7) 75) .0 (p .0) in
-    let r = and-eq-true-iff (leb 0 (length d)) (eqb (n % 7) 0) .0 (q .0) in
-    let e = eqb-true (n % 7) 0 (r .1) in
-    let l = leb-true (n / 7) 75 (q .1) in
-    (omega arith, omega arith)
 
 -- the data's numbers are bytes
 abbrev pub Bytes : List ℕ → Type 0

@@ -1,86 +1,37 @@
--- Laws of entries one after the other, over any width.
+-- Laws of entries one after the other, over any header and width: reading one more, laying out one more, and both ways.
 use mathlib.Core.Path.{_≡_, refl, sym, ap, _∙_}
-use mathlib.Core.Bool.{Bool, true, false}
+use mathlib.Core.Bool.{Bool, true, false, _&&_, and-eq-true-iff}
 use mathlib.Core.List.{List, [], _∷_, _++_, append-assoc}
-use borrow.Author.Tests.{eqb-true, eqb-false}
-use Prim.Native.Nat.{ℕ, zero, suc, _+_, _*_, _-_, _≤_, _<_}
-use native.Mathlib.Nat.{add-zero, mul-zero, mul-suc, mul-le-mul-left}
+use mathlib.Core.Option.{some}
+use borrow.Author.Tests.{eqb-true, eqb-false, leb-true}
+use Prim.Native.Nat.{ℕ, zero, suc, _+_, _*_, _-_, _/_, _%_, _≤_, _<_}
+use native.Mathlib.Nat.{mul-zero, mul-suc, mul-le-mul-left}
 use native.Mathlib.Numerals.{add-one}
 use native.Mathlib.Omega.{arith}
-use lib.Dec.{eqb}
+use lib.Dec.{eqb, leb}
 use lib.ListN.{length, take, drop, getD, set, replicate, length-append, length-drop}
-use lib.Seq.{set-at, append-snoc, take-all, take-add, take-suc, take-append-le, drop-append-le, drop-at, getD-at, getD-take, getD-drop, length-take-le}
+use lib.Seq.{set-at, append-snoc, take-all, take-add, take-suc, take-append-le, take-append-add, take-at, length-take-le}
+use lib.Seq.{drop-append-le, drop-at, drop-drop, getD-at, getD-take, getD-drop}
 use Rattle.octets.specs.Placing.{placed}
-use Rattle.octets.proofs.PlacingLaws.{length-placed, placed-more}
+use Rattle.octets.proofs.PlacingLaws.{length-placed, placed-more, placed-fits}
 use Rattle.ranges.specs.Ranges.{byte}
-use Rattle.octets.proofs.DeliveryLaws.{placed-back}
-use Rattle.encoding.specs.Entries.{firsts, joined}
+use Rattle.kinds.specs.Kinds.{table, rowIn, entries, allows, lengthOk, content}
+use Rattle.encoding.proofs.AcceptedLaws.{Bytes, accepted-parts}
+use Rattle.encoding.specs.Entries.{Series, firsts, laidOut, entrySlice, entriesOf, entriesData, keptEntries}
 
-pub length-firsts : {A : Type 0} (f : ℕ → A) (n : ℕ) → length (firsts f n) ≡ n
+length-firsts : {A : Type 0} (f : ℕ → A) (n : ℕ) → length (firsts f n) ≡ n
 unfolding firsts
 length-firsts f zero = refl
 length-firsts f (suc n) = length-append (firsts f n) (f n ∷ []) ∙ ap (λ (m : ℕ). m + 1) (length-firsts f n) ∙ add-one n
 
 -- a store at i, in a list that is filled up to i
-pub fill-more : {A : Type 0} (f : ℕ → A) (b : A) (m i : ℕ) → i < m
+fill-more : {A : Type 0} (f : ℕ → A) (b : A) (m i : ℕ) → i < m
     → set (firsts f i ++ replicate (m - i) b) i (f i) ≡ firsts f (i + 1) ++ replicate (m - (i + 1)) b
 unfolding firsts
 fill-more f b m i h =
     let e : m - i ≡ suc (m - suc i) = omega arith in
     rw (e, set-at (firsts f i) b (replicate (m - suc i) b) (f i) i (length-firsts f i), add-one)
     (sym (append-snoc (firsts f i) (f i) (replicate (m - suc i) b)))
-
-pub length-joined : (g : ℕ → List ℕ) (w : ℕ) → ((i : ℕ) → length (g i) ≡ w) → (n : ℕ) → length (joined g n) ≡ w * n
-unfolding joined
-length-joined g w h zero = sym (mul-zero w)
-length-joined g w h (suc n) = rw (length-append (joined g n) (g n), length-joined g w h n, h n) (sym (mul-suc w n))
-
--- one entry more, placed right after those before it
-pub joined-more : (g : ℕ → List ℕ) (w : ℕ) → ((i : ℕ) → length (g i) ≡ w) → (b : List ℕ) (i : ℕ) → w * i + w ≤ length b
-    → placed (placed b 0 (joined g i)) (w * i) (g i) ≡ placed b 0 (joined g (i + 1))
-unfolding joined
-joined-more g w h b i k =
-    let l : length (joined g i) ≡ w * i = length-joined g w h i in
-    let r : 0 + length (joined g i) + length (g i) ≤ length b = omega (arith, h i) in
-    let e : w * i ≡ 0 + length (joined g i) = omega arith in
-    rw (add-one, e) (placed-more b 0 (joined g i) (g i) r)
-
--- bytes that fill the whole buffer
-pub placed-whole : (b d : List ℕ) → length d ≡ length b → placed b 0 d ≡ d
-placed-whole b d h =
-    let l : length (placed b 0 d) ≤ length d = omega (arith, length-placed b 0 d) in
-    sym (take-all (length d) (placed b 0 d) l) ∙ placed-back b d (omega arith)
-
--- the entry at i among those that were joined
-pub piece-joined : (g : ℕ → List ℕ) (w : ℕ) → ((i : ℕ) → length (g i) ≡ w) → (n i : ℕ) → i < n → take w (drop (w * i) (joined g n)) ≡ g i
-unfolding joined
-piece-joined g w h zero i l = absurd (omega arith)
-piece-joined g w h (suc n) i l = go (eqb i n) refl (λ k. piece-joined g w h n i k)
-  where
-    long : length (joined g n) ≡ w * n
-    long = length-joined g w h n
-
-    go : (t : Bool) → eqb i n ≡ t → (i < n → take w (drop (w * i) (joined g n)) ≡ g i) → take w (drop (w * i) (joined g n ++ g n)) ≡ g i
-    go true e ih =
-        let q : i ≡ n = eqb-true i n e in
-        rw (q, drop-at (joined g n) (g n) (w * n) long) (take-all w (g n) (omega (arith, h n)))
-    go false e ih =
-        let k : i < n = (let q = eqb-false i n e in omega arith) in
-        let m : w * i + w ≤ w * n = omega (arith, mul-suc w i, mul-le-mul-left w k) in
-        let a : w * i ≤ length (joined g n) = omega (arith, long) in
-        let b : w ≤ length (drop (w * i) (joined g n)) = rw length-drop (omega (arith, long)) in
-        rw (drop-append-le (w * i) (joined g n) (g n) a, take-append-le w (drop (w * i) (joined g n)) (g n) b) (ih k)
-
--- all the pieces of some data
-pieces : (w : ℕ) (d : List ℕ) (n : ℕ) → joined (λ i. take w (drop (w * i) d)) n ≡ take (w * n) d
-unfolding joined
-pieces w d zero = rw mul-zero
-pieces w d (suc n) = rw (pieces w d n, mul-suc, take-add (w * n) w d)
-
-joined-same : (g h : ℕ → List ℕ) (n : ℕ) → ((i : ℕ) → i < n → g i ≡ h i) → joined g n ≡ joined h n
-unfolding joined
-joined-same g h zero e = refl
-joined-same g h (suc n) e = rw (joined-same g h n (λ i l. e i (omega arith)), e n (omega arith))
 
 module _ {A : Type 0} where
   firsts-same : (f h : ℕ → A) (n : ℕ) → ((i : ℕ) → i < n → f i ≡ h i) → firsts f n ≡ firsts h n
@@ -102,33 +53,137 @@ module _ {A : Type 0} where
       go true e ih = let q : i ≡ n = eqb-true i n e in rw q (getD-at (firsts f n) (f n) r z n (length-firsts f n))
       go false e ih = let q = eqb-false i n e in ih (omega arith)
 
--- entries of width w: `get` reads the one at an index, `put` gives its bytes. What is read of one entry is read of all of them
-module _ {A : Type 0} (z : A) (w : ℕ) (get : List ℕ → ℕ → A) (put : A → List ℕ) where
-  pub read-rows : ((a : A) → length (put a) ≡ w) → (Fits : A → Type 0)
-      → ((d : List ℕ) (i : ℕ) (a : A) → w * i + w ≤ length d → take w (drop (w * i) d) ≡ put a → Fits a → get d i ≡ a)
-      → (es : List A) (n : ℕ) → n ≤ length es → ((i : ℕ) → i < n → Fits (getD es i z))
-      → firsts (get (joined (λ i. put (getD es i z)) n)) n ≡ take n es
-  read-rows long Fits one es n h fit =
-      let g : ℕ → List ℕ = λ i. put (getD es i z) in
-      let l : (i : ℕ) → length (g i) ≡ w = λ i. long (getD es i z) in
-      firsts-same (get (joined g n)) (λ i. getD es i z) n
-      (λ i k. one (joined g n) i (getD es i z) (omega (arith, mul-suc w i, mul-le-mul-left w k, length-joined g w l n)) (piece-joined g w l n i k) (fit i k))
-      ∙ firsts-take es z n h
+module _ (g : ℕ → List ℕ) (w : ℕ) (long : (i : ℕ) → length (g i) ≡ w) where
+  length-laid : (n : ℕ) → length (laidOut g n) ≡ w * n
+  unfolding laidOut
+  length-laid zero = sym (mul-zero w)
+  length-laid (suc n) = rw (length-append (laidOut g n) (g n), length-laid n, long n) (sym (mul-suc w n))
 
-  pub write-rows : (Good : List ℕ → Type 0) → ((d : List ℕ) (i : ℕ) → w * i + w ≤ length d → Good d → put (get d i) ≡ take w (drop (w * i) d))
-      → (d : List ℕ) (n : ℕ) (r : List A) → w * n ≤ length d → Good d → joined (λ i. put (getD (firsts (get d) n ++ r) i z)) n ≡ take (w * n) d
-  write-rows Good one d n r h y =
-      joined-same (λ i. put (getD (firsts (get d) n ++ r) i z)) (λ i. take w (drop (w * i) d)) n
-      (λ i k. ap put (getD-firsts (get d) z n i r k) ∙ one d i (omega (arith, mul-suc w i, mul-le-mul-left w k)) y)
-      ∙ pieces w d n
+  -- the bytes at i among those that were laid out
+  laid-at : (n i : ℕ) → i < n → take w (drop (w * i) (laidOut g n)) ≡ g i
+  unfolding laidOut
+  laid-at zero i l = absurd (omega arith)
+  laid-at (suc n) i l = go (eqb i n) refl (λ k. laid-at n i k)
+    where
+      go : (t : Bool) → eqb i n ≡ t → (i < n → take w (drop (w * i) (laidOut g n)) ≡ g i)
+          → take w (drop (w * i) (laidOut g n ++ g n)) ≡ g i
+      go true e ih =
+          let q : i ≡ n = eqb-true i n e in
+          rw (q, drop-at (laidOut g n) (g n) (w * n) (length-laid n)) (take-all w (g n) (omega (arith, long n)))
+      go false e ih =
+          let k : i < n = (let q = eqb-false i n e in omega arith) in
+          let m : w * i + w ≤ w * n = omega (arith, mul-suc w i, mul-le-mul-left w k) in
+          let a : w * i ≤ length (laidOut g n) = omega (arith, length-laid n) in
+          let b : w ≤ length (drop (w * i) (laidOut g n)) = rw length-drop (omega (arith, length-laid n)) in
+          rw (drop-append-le (w * i) (laidOut g n) (g n) a, take-append-le w (drop (w * i) (laidOut g n)) (g n) b) (ih k)
 
--- the bytes of a piece of width w
-module _ (w : ℕ) (d : List ℕ) (i : ℕ) where
-  pub in-piece : (j : ℕ) → j < w → byte d (w * i + j) ≡ byte (take w (drop (w * i) d)) j
-  in-piece j l = sym (getD-take w (drop (w * i) d) j 0 l ∙ getD-drop (w * i) d j 0)
+-- all the pieces of some data
+all-pieces : (w h : ℕ) (d : List ℕ) (n : ℕ) → laidOut (λ i. take w (drop (h + w * i) d)) n ≡ take (w * n) (drop h d)
+unfolding laidOut
+all-pieces w h d zero = rw mul-zero
+all-pieces w h d (suc n) = rw (all-pieces w h d n, mul-suc, take-add (w * n) w (drop h d), drop-drop)
 
-  pub first-in-piece : 0 < w → byte d (w * i) ≡ byte (take w (drop (w * i) d)) 0
-  first-in-piece l = ap (byte d) (sym (add-zero (w * i))) ∙ in-piece 0 l
+laid-same : (g h : ℕ → List ℕ) (n : ℕ) → ((i : ℕ) → i < n → g i ≡ h i) → laidOut g n ≡ laidOut h n
+unfolding laidOut
+laid-same g h zero e = refl
+laid-same g h (suc n) e = rw (laid-same g h n (λ i l. e i (omega arith)), e n (omega arith))
 
-  pub piece-length : w * i + w ≤ length d → length (take w (drop (w * i) d)) ≡ w
-  piece-length h = length-take-le w (drop (w * i) d) (rw length-drop (omega arith))
+module _ {E : Type 0} (s : Series E) where
+  abbrev Long : Type 0
+  Long = (e : E) → length (s .entryData e) ≡ s .width
+
+  pub entry-length : (d : List ℕ) (i : ℕ) → s .header + s .width * i + s .width ≤ length d → length (entrySlice s d i) ≡ s .width
+  entry-length d i h = length-take-le (s .width) (drop (s .header + s .width * i) d) (rw length-drop (omega arith))
+
+  pub entry-byte : (d : List ℕ) (i j : ℕ) → j < s .width → byte (entrySlice s d i) j ≡ byte d (s .header + s .width * i + j)
+  entry-byte d i j l = getD-take (s .width) (drop (s .header + s .width * i) d) j 0 l ∙ getD-drop (s .header + s .width * i) d j 0
+
+  pub entry-bytes : (d : List ℕ) (i : ℕ) → s .header + s .width * i + s .width ≤ length d → Bytes d → Bytes (entrySlice s d i)
+  entry-bytes d i h y j l =
+      let k : j < s .width = omega (arith, entry-length d i h) in
+      rw (entry-byte d i j k) (y (s .header + s .width * i + j) (omega arith))
+
+  -- no entry read yet
+  pub read-none : (d : List ℕ) → replicate (s .most) (s .blank) ≡ entriesOf s d 0
+  unfolding firsts
+  read-none d = let e : s .most - 0 ≡ s .most = omega arith in rw e
+
+  -- the entry at i, read from its slice of the data, stored after those before it
+  pub read-more : (d : List ℕ) (i from : ℕ) → i < s .most → from ≡ s .header + s .width * i → (es : List E) → es ≡ entriesOf s d i
+      → (e : E) → e ≡ s .entryOf (take (from + s .width - from) (drop from d)) → set es i e ≡ entriesOf s d (i + 1)
+  read-more d i from l p es q e r =
+      let n : from + s .width - from ≡ s .width = omega arith in
+      (λ k. set (q k) i ((r ∙ (λ m. s .entryOf (take (n m) (drop (p m) d)))) k))
+      ∙ fill-more (λ j. s .entryOf (entrySlice s d j)) (s .blank) (s .most) i l
+
+  pub length-entries : Long → (es : List E) (n : ℕ) → length (entriesData s es n) ≡ s .width * n
+  length-entries long es n = length-laid (λ i. s .entryData (getD es i (s .blank))) (s .width) (λ i. long (getD es i (s .blank))) n
+
+  -- one entry more, placed right after those before it
+  pub laid-more : Long → (b : List ℕ) (es : List E) (i at : ℕ) → at ≡ s .header + s .width * i → at + s .width ≤ length b
+      → (all : List ℕ) → all ≡ placed b (s .header) (entriesData s es i) → (x : List ℕ) → x ≡ s .entryData (getD es i (s .blank))
+      → placed all at x ≡ placed b (s .header) (entriesData s es (i + 1))
+  unfolding laidOut
+  laid-more long b es i at p r all q x y =
+      let l = length-entries long es i in
+      let g = s .entryData (getD es i (s .blank)) in
+      let t : at ≡ s .header + length (entriesData s es i) = omega arith in
+      let k : s .header + length (entriesData s es i) + length g ≤ length b = omega (arith, long (getD es i (s .blank))) in
+      (λ k. placed (q k) (t k) (y k)) ∙ rw add-one (placed-more b (s .header) (entriesData s es i) g k)
+
+  -- all entries are placed: the header's bytes, and theirs
+  pub laid-done : Long → (b : List ℕ) (es : List E) (n : ℕ) → s .header + s .width * n ≤ length b
+      → take (s .header + s .width * n) (placed b (s .header) (entriesData s es n)) ≡ take (s .header) b ++ entriesData s es n
+  laid-done long b es n h =
+      let l = length-entries long es n in
+      let d = entriesData s es n in
+      let k : length (take (s .header) b) ≡ s .header = length-take-le (s .header) b (omega arith) in
+      let t : s .header + s .width * n ≡ length (take (s .header) b) + length d = omega arith in
+      let rest = drop (s .header + length d) b in
+      rw (placed-fits b (s .header) d (omega arith), t, take-append-add (take (s .header) b) (d ++ rest) (length d), take-at d rest (length d) refl)
+
+  pub laid-whole : Long → (b : List ℕ) (es : List E) (n : ℕ) → s .header + s .width * n ≡ length b
+      → placed b (s .header) (entriesData s es n) ≡ take (s .header) b ++ entriesData s es n
+  laid-whole long b es n h =
+      let l = length-placed b (s .header) (entriesData s es n) in
+      sym (take-all (s .header + s .width * n) (placed b (s .header) (entriesData s es n)) (omega arith))
+      ∙ laid-done long b es n (omega arith)
+
+  -- what is read of one entry is read of all of them
+  pub read-laid : Long → (Fits : E → Type 0) → ((e : E) → Fits e → s .entryOf (s .entryData e) ≡ e)
+      → (top : List ℕ) → length top ≡ s .header → (es : List E) (n : ℕ) → n ≤ length es
+      → ((i : ℕ) → i < n → Fits (getD es i (s .blank)))
+      → entriesOf s (top ++ entriesData s es n) n ≡ keptEntries s es n
+  read-laid long Fits one top t es n h fit =
+      let g : ℕ → List ℕ = λ i. s .entryData (getD es i (s .blank)) in
+      let at : (i : ℕ) → i < n → entrySlice s (top ++ laidOut g n) i ≡ g i = λ i k.
+      ap (take (s .width)) (sym (drop-drop (s .width * i) (s .header) (top ++ laidOut g n)))
+      ∙ (λ m. take (s .width) (drop (s .width * i) (drop-at top (laidOut g n) (s .header) t m)))
+      ∙ laid-at g (s .width) (λ j. long (getD es j (s .blank))) n i k in
+      ap (λ (l : List E). l ++ replicate (s .most - n) (s .blank))
+      (firsts-same (λ i. s .entryOf (entrySlice s (top ++ laidOut g n) i)) (λ i. getD es i (s .blank)) n
+      (λ i k. ap (s .entryOf) (at i k) ∙ one (getD es i (s .blank)) (fit i k))
+      ∙ firsts-take es (s .blank) n h)
+
+  -- what is written of one entry is written of all of them
+  pub laid-read : (d : List ℕ) (n : ℕ) → s .header + s .width * n ≤ length d
+      → ((i : ℕ) → s .header + s .width * i + s .width ≤ length d → s .entryData (s .entryOf (entrySlice s d i)) ≡ entrySlice s d i)
+      → entriesData s (entriesOf s d n) n ≡ take (s .width * n) (drop (s .header) d)
+  laid-read d n h one =
+      laid-same (λ i. s .entryData (getD (entriesOf s d n) i (s .blank))) (entrySlice s d) n
+      (λ i k. ap (s .entryData) (getD-firsts (λ j. s .entryOf (entrySlice s d j)) (s .blank) n i _ k)
+      ∙ one i (omega (arith, mul-suc (s .width) i, mul-le-mul-left (s .width) k)))
+      ∙ all-pieces (s .width) (s .header) d n
+
+-- acceptable data of a kind with entries is a header and a whole number of entries, at most so many
+module _ (id h w m : ℕ) (f : List ℕ → Bool) (d : List ℕ) where
+  pub entry-count : rowIn table id ≡ some (entries id h w m f) → eqb w 0 ≡ false → content id d ≡ 0
+      → (h ≤ length d) × ((length d - h) % w ≡ 0) × ((length d - h) / w ≤ m)
+  unfolding lengthOk allows
+  entry-count row wide c =
+      let n = length d - h in
+      let p = and-eq-true-iff (allows (entries id h w m f .kind) (length d)) _ .0 (accepted-parts id (entries id h w m f) d row c .0) in
+      let a : leb h (length d) && eqb (n % w) 0 && leb (n / w) m ≡ true = rw wide at (p .0) in
+      let q = and-eq-true-iff (leb h (length d) && eqb (n % w) 0) (leb (n / w) m) .0 a in
+      let r = and-eq-true-iff (leb h (length d)) (eqb (n % w) 0) .0 (q .0) in
+      (leb-true h (length d) (r .0), eqb-true (n % w) 0 (r .1), leb-true (n / w) m (q .1))

@@ -1,55 +1,55 @@
--- The round trip of 47h. Reading what was written gives the fields; writing what was read gives the data. Both are the laws over the
--- width (EntryLaws), from one entry.
+-- The round trips of 47h, over what the calls return: both are the laws of entries (EntryLaws), from one triple.
 use mathlib.Core.Path.{_≡_, refl, sym, ap, _∙_}
-use mathlib.Core.List.{List, [], _∷_, append-nil}
-use Prim.Native.Nat.{ℕ, _+_, _*_, _≤_, _<_}
+use mathlib.Core.List.{List, [], append-nil}
+use Prim.Native.Nat.{ℕ, _≤_}
 use native.Mathlib.Omega.{arith}
 use borrow.Author.Tests.{eq-eqb}
-use lib.ListN.{length, take, drop}
+use lib.ListN.{length, take}
 use lib.Seq.{take-length}
 use Rattle.octets.specs.Placing.{placed}
-use Rattle.ranges.specs.Ranges.{byte, in47}
-use Rattle.kinds.specs.Kinds.{table, rowIn}
 use Rattle.octets.specs.Delivery.{accepted}
-use Rattle.encoding.proofs.WrittenLaws.{written-judged, written-back, written-anew}
+use Rattle.octets.specs.declared.Written.{Written}
+use Rattle.ranges.specs.Ranges.{in47}
+use Rattle.kinds.specs.Kinds.{table, rowIn, content}
+use Rattle.encoding.specs.Encoding.{encodedOf, encodedInto}
+use Rattle.encoding.specs.Entries.{entrySlice, entriesOf}
+use Rattle.encoding.proofs.CallLaws.{call-back, call-writes}
 use Rattle.encoding.proofs.AcceptedLaws.{one-length, spelled}
-use Rattle.encoding.specs.Entries.{firsts}
-use Rattle.encoding.proofs.EntryLaws.{in-piece, first-in-piece, piece-length, read-rows, write-rows}
-use Rattle.fields_47.specs.declared.Use.{Use}
+use Rattle.encoding.proofs.EntryLaws.{entry-length, read-laid, laid-read}
 use Rattle.fields_47.specs.declared.Uses.{Uses}
-use Rattle.fields_47.specs.Uses.{useOf, noUse, usesOf, read47, useData, usesData, write47, fill47}
+use Rattle.fields_47.specs.declared.Decoded.{Decoded}
+use Rattle.fields_47.specs.Fields.{uses, fieldsOf, dataOf, decodedOf}
 
-use-read : (d : List ℕ) (i : ℕ) (u : Use) → 3 * i + 3 ≤ length d → take 3 (drop (3 * i) d) ≡ useData u → Unit {0} → useOf d i ≡ u
-use-read d i u h q t =
-    let at : (j : ℕ) → j < 3 → byte d (3 * i + j) ≡ byte (useData u) j = λ j l. in-piece 3 d i j l ∙ ap (λ (s : List ℕ). byte s j) q in
-    λ k. record {
-      system = (first-in-piece 3 d i (omega arith) ∙ ap (λ (s : List ℕ). byte s 0) q) k;
-      number = at 1 (omega arith) k;
-      used = at 2 (omega arith) k;
-    }
+read-data : (f : Uses) → length (f .triples) ≡ 56 → fieldsOf (dataOf f) ≡ f
+read-data f l =
+    let all : take 56 (f .triples) ≡ f .triples = ap (λ (i : ℕ). take i (f .triples)) (sym l) ∙ take-length (f .triples) in
+    let e : entriesOf uses (dataOf f) 56 ≡ f .triples =
+    read-laid uses (λ _. refl) (λ _. Unit {0}) (λ e t. refl) [] refl (f .triples) 56 (omega arith) (λ i k. tt)
+    ∙ append-nil (take 56 (f .triples))
+    ∙ all in
+    λ k. record { triples = e k }
 
-use-written : (d : List ℕ) (i : ℕ) → 3 * i + 3 ≤ length d → Unit {0} → useData (useOf d i) ≡ take 3 (drop (3 * i) d)
-use-written d i h y =
-    let at = in-piece 3 d i in
-    (λ k. first-in-piece 3 d i (omega arith) k ∷ at 1 (omega arith) k ∷ at 2 (omega arith) k ∷ [])
-    ∙ spelled 3 0 (take 3 (drop (3 * i) d)) (piece-length 3 d i h)
+data-read : (d : List ℕ) → length d ≡ 168 → dataOf (fieldsOf d) ≡ d
+data-read d l =
+    laid-read uses d 56 (omega arith) (λ i h. spelled 3 0 (entrySlice uses d i) (entry-length uses d i h))
+    ∙ ap (λ (i : ℕ). take i d) (sym l)
+    ∙ take-length d
 
-pub read-written-47 : (f : Uses) (b : List ℕ) → length (f .triples) ≡ 56 → write47 f b .refusal ≡ 0
-    → read47 (take (write47 f b .length) (fill47 f b)) ≡ record { refusal = 0; fields = f }
-unfolding read47
-read-written-47 f b l z =
-    let d = usesData (f .triples) in
-    let j = written-judged 0x47 d b z in
-    let r : firsts (useOf d) 56 ≡ f .triples =
-    read-rows noUse 3 useOf useData (λ _. refl) (λ _. Unit {0}) use-read (f .triples) 56 (omega arith) (λ i k. tt)
-    ∙ ap (λ (i : ℕ). take i (f .triples)) (sym l)
-    ∙ take-length (f .triples) in
-    rw (written-back 0x47 d b z, eq-eqb _ _ (j .0), j .0, r, append-nil)
+pub encode-decode : (f : Uses) (b b′ : List ℕ) (w : Written) (r : Decoded) → length (f .triples) ≡ 56
+    → w ≡ encodedOf 0x47 (dataOf f) b → b′ ≡ encodedInto 0x47 (dataOf f) b → w .refusal ≡ 0 → r ≡ decodedOf (take (w .length) b′)
+    → r ≡ record { refusal = 0; fields = f }
+unfolding decodedOf
+encode-decode f b b′ w r l answer left z read =
+    let d = dataOf f in
+    let c = call-back (content 0x47 d) d b w b′ answer left z in
+    read ∙ ap decodedOf (c .1) ∙ rw (c .0, read-data f l)
 
-pub written-read-47 : (d b : List ℕ) → read47 d .refusal ≡ 0 → length d ≤ length b
-    → (write47 (read47 d .fields) b ≡ accepted (length d)) × (fill47 (read47 d .fields) b ≡ placed b 0 d)
-unfolding read47 table rowIn
-written-read-47 d b h k =
-    let l : length d ≡ 168 = one-length 0x47 168 in47 d refl h in
-    let q : usesData (usesOf d 56 .triples) ≡ d = write-rows noUse 3 useOf useData (λ _. Unit {0}) use-written d 56 _ (omega arith) tt ∙ ap (λ (i : ℕ). take i d) (sym l) ∙ take-length d in
-    rw (eq-eqb _ _ h) (written-anew 0x47 d b (usesData (usesOf d 56 .triples)) q h k)
+pub decode-encode : (d b b′ : List ℕ) (r : Decoded) (w : Written) → r ≡ decodedOf d → r .refusal ≡ 0 → length d ≤ length b
+    → w ≡ encodedOf 0x47 (dataOf (r .fields)) b → b′ ≡ encodedInto 0x47 (dataOf (r .fields)) b
+    → (w ≡ accepted (length d)) × (b′ ≡ placed b 0 d)
+unfolding decodedOf table rowIn
+decode-encode d b b′ r w read z room answer left =
+    let h : content 0x47 d ≡ 0 = sym (ap (λ (x : Decoded). x .refusal) read) ∙ z in
+    let f : r .fields ≡ fieldsOf d = ap (λ (x : Decoded). x .fields) read ∙ rw (eq-eqb _ _ h) in
+    let q : dataOf (r .fields) ≡ d = ap dataOf f ∙ data-read d (one-length 0x47 168 in47 d refl h) in
+    call-writes (content 0x47 (dataOf (r .fields))) (dataOf (r .fields)) b w b′ answer left d q (ap (content 0x47) q ∙ h) room

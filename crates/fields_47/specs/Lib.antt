@@ -1,1 +1,1 @@
-pub mod Uses
+pub mod Fields

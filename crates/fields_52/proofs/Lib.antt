@@ -1,1 +1,2 @@
+pub mod EntryCount
 pub mod RoundTrips

@@ -1,31 +1,32 @@
--- The round trip of 52h. Reading what was written gives the fields, with entries past the count blank; writing what was read gives
--- the data. Both are the laws over the width (EntryLaws), from one entry.
-use mathlib.Core.Path.{_≡_, refl, ap, _∙_}
-use mathlib.Core.List.{List, [], _∷_, _++_}
-use Prim.Native.Nat.{ℕ, suc, _+_, _-_, _*_, _/_, _%_, _≤_, _<_}
+-- The round trips of 52h, over what the calls return: both are the laws of entries (EntryLaws), from one entry. What was encoded is
+-- decoded as its fields, with entries past the count blank.
+use mathlib.Core.Path.{_≡_, refl, sym, ap, _∙_}
+use mathlib.Core.List.{List, [], _∷_}
+use Prim.Native.Nat.{ℕ, suc, _+_, _*_, _/_, _%_, _≤_, _<_}
 use native.Mathlib.Numerals.{add-one}
 use native.Mathlib.Omega.{arith}
 use borrow.Author.Tests.{eq-eqb, le-leb, leb-true}
 use lib.Dec.{leb}
-use lib.ListN.{length, take, drop, getD, replicate}
+use lib.ListN.{length, take, getD}
 use lib.Seq.{drop-cons, take-length}
 use lib.Signed.{mag}
 use Rattle.numbers.specs.Number.{numberOf, numberAt}
-use Rattle.octets.specs.Placing.{placed}
-use Rattle.numbers.specs.Signed.{int8}
 use Rattle.numbers.proofs.NumberLaws.{number-in}
 use Rattle.numbers.proofs.SignedLaws.{signed-unsigned, unsigned-signed}
+use Rattle.octets.specs.Placing.{placed}
+use Rattle.octets.specs.Delivery.{accepted, writtenOf, filledOf}
+use Rattle.octets.specs.declared.Written.{Written}
 use Rattle.ranges.specs.Ranges.{byte}
-use Rattle.octets.specs.Delivery.{accepted}
-use Rattle.encoding.specs.Encoding.{encodedOf}
-use Rattle.octets.proofs.DeliveryLaws.{asked}
-use Rattle.encoding.proofs.WrittenLaws.{written-judged, written-back, written-anew}
-use Rattle.encoding.proofs.AcceptedLaws.{Bytes, entries-52, spelled}
-use Rattle.encoding.specs.Entries.{firsts}
-use Rattle.encoding.proofs.EntryLaws.{in-piece, first-in-piece, piece-length, length-joined, read-rows, write-rows}
+use Rattle.kinds.specs.Kinds.{content}
+use Rattle.encoding.specs.Entries.{entrySlice, entriesOf, keptEntries}
+use Rattle.encoding.proofs.CallLaws.{cond-zero, call-back, call-writes}
+use Rattle.encoding.proofs.AcceptedLaws.{Bytes, spelled}
+use Rattle.encoding.proofs.EntryLaws.{entry-length, entry-bytes, length-entries, read-laid, laid-read}
 use Rattle.fields_52.specs.declared.Entry.{Entry}
 use Rattle.fields_52.specs.declared.Visible.{Visible}
-use Rattle.fields_52.specs.Visible.{entryOf, blank, entriesOf, read52, entryData, data52, write52, fill52}
+use Rattle.fields_52.specs.declared.Decoded.{Decoded}
+use Rattle.fields_52.proofs.EntryCount.{count-52}
+use Rattle.fields_52.specs.Fields.{entryOf, entryData, blank, visibles, fieldsOf, dataOf, decodedOf, refusalOf}
 
 -- two bytes as a number, and back
 number-two : (d : List ℕ) (at : ℕ) → at + 2 ≤ length d → numberAt d at 2 ≡ byte d at + 256 * byte d (at + 1)
@@ -39,63 +40,69 @@ two-bytes x h = omega arith
 two-split : (a b : ℕ) → a < 256 → b < 256 → ((a + 256 * b) % 256 ≡ a) × ((a + 256 * b) / 256 % 256 ≡ b)
 two-split a b p q = (omega arith, omega arith)
 
--- 52h: an entry's carrier is an i8, its azimuth a u16
+-- an entry's carrier is an i8, its azimuth a u16
 pub record InTypes (e : Entry) : Type 0 where
   pub carrier : mag (e .carrier) < 128
   pub azimuth : e .azimuth < 65536
 
-entry-read : (d : List ℕ) (i : ℕ) (e : Entry) → 7 * i + 7 ≤ length d → take 7 (drop (7 * i) d) ≡ entryData e → InTypes e → entryOf d i ≡ e
-entry-read d i e h q t =
-    let at : (j : ℕ) → j < 7 → byte d (7 * i + j) ≡ byte (entryData e) j = λ j l. in-piece 7 d i j l ∙ ap (λ (s : List ℕ). byte s j) q in
-    let five : byte d (7 * i + 4 + 1) ≡ e .azimuth / 256 % 256 = ap (byte d) (omega arith) ∙ at 5 (omega arith) in
-    λ k. record {
-      system = (first-in-piece 7 d i (omega arith) ∙ ap (λ (s : List ℕ). byte s 0) q) k;
-      number = at 1 (omega arith) k;
-      carrier = (ap int8 (at 2 (omega arith)) ∙ signed-unsigned 8 (e .carrier) (omega arith) (t .carrier)) k;
-      elevation = at 3 (omega arith) k;
-      azimuth = (number-two d (7 * i + 4) (omega arith) ∙ (λ m. at 4 (omega arith) m + 256 * five m) ∙ two-bytes (e .azimuth) (t .azimuth)) k;
-      signal = at 6 (omega arith) k;
-    }
+entry-read : (e : Entry) → InTypes e → entryOf (entryData e) ≡ e
+entry-read e t = λ k. record {
+  system = e .system;
+  number = e .number;
+  carrier = signed-unsigned 8 (e .carrier) (omega arith) (t .carrier) k;
+  elevation = e .elevation;
+  azimuth = (number-two (entryData e) 4 (omega arith) ∙ two-bytes (e .azimuth) (t .azimuth)) k;
+  signal = e .signal;
+}
 
-entry-written : (d : List ℕ) (i : ℕ) → 7 * i + 7 ≤ length d → Bytes d → entryData (entryOf d i) ≡ take 7 (drop (7 * i) d)
-entry-written d i h y =
-    let t : List ℕ = take 7 (drop (7 * i) d) in
-    let at = in-piece 7 d i in
-    let five : byte d (7 * i + 4 + 1) ≡ byte d (7 * i + 5) = ap (byte d) (omega arith) in
-    let v : numberAt d (7 * i + 4) 2 ≡ byte d (7 * i + 4) + 256 * byte d (7 * i + 5) = number-two d (7 * i + 4) (omega arith) ∙ (λ m. byte d (7 * i + 4) + 256 * five m) in
-    let s = two-split (byte d (7 * i + 4)) (byte d (7 * i + 5)) (y (7 * i + 4) (omega arith)) (y (7 * i + 5) (omega arith)) in
-    (λ k. first-in-piece 7 d i (omega arith) k
-    ∷ at 1 (omega arith) k
-    ∷ (unsigned-signed 8 (byte d (7 * i + 2)) (y (7 * i + 2) (omega arith)) ∙ at 2 (omega arith)) k
-    ∷ at 3 (omega arith) k
-    ∷ (ap (λ (n : ℕ). n % 256) v ∙ s .0 ∙ at 4 (omega arith)) k
-    ∷ (ap (λ (n : ℕ). n / 256 % 256) v ∙ s .1 ∙ at 5 (omega arith)) k
-    ∷ at 6 (omega arith) k
+entry-written : (s : List ℕ) → length s ≡ 7 → Bytes s → entryData (entryOf s) ≡ s
+entry-written s l y =
+    let v : numberAt s 4 2 ≡ byte s 4 + 256 * byte s 5 = number-two s 4 (omega arith) in
+    let t = two-split (byte s 4) (byte s 5) (y 4 (omega arith)) (y 5 (omega arith)) in
+    (λ k. byte s 0
+    ∷ byte s 1
+    ∷ unsigned-signed 8 (byte s 2) (y 2 (omega arith)) k
+    ∷ byte s 3
+    ∷ (ap (λ (n : ℕ). n % 256) v ∙ t .0) k
+    ∷ (ap (λ (n : ℕ). n / 256 % 256) v ∙ t .1) k
+    ∷ byte s 6
     ∷ [])
-    ∙ spelled 7 0 t (piece-length 7 d i h)
+    ∙ spelled 7 0 s l
 
--- the first n entries, and blank ones past them
-abbrev pub kept52 : Visible → Visible
-kept52 f = record { n = f .n; entries = take (f .n) (f .entries) ++ replicate (75 - f .n) blank }
+read-data : (f : Visible) → length (f .entries) ≡ 75 → f .n ≤ 75 → ((i : ℕ) → i < f .n → InTypes (getD (f .entries) i blank))
+    → fieldsOf (dataOf f) ≡ record { n = f .n; entries = keptEntries visibles (f .entries) (f .n) }
+read-data f l m t =
+    let n : length (dataOf f) / 7 ≡ f .n = omega (arith, length-entries visibles (λ _. refl) (f .entries) (f .n)) in
+    let e = read-laid visibles (λ _. refl) InTypes entry-read [] refl (f .entries) (f .n) (omega arith) t in
+    λ k. record { n = n k; entries = ((λ j. entriesOf visibles (dataOf f) (n j)) ∙ e) k }
 
-pub read-written-52 : (f : Visible) (b : List ℕ) → length (f .entries) ≡ 75 → ((i : ℕ) → i < f .n → InTypes (getD (f .entries) i blank))
-    → write52 f b .refusal ≡ 0 → read52 (take (write52 f b .length) (fill52 f b)) ≡ record { refusal = 0; fields = kept52 f }
-unfolding read52 write52 fill52
-read-written-52 f b l t z =
-    let d = data52 f in
-    let w = asked (leb (f .n) 75) (encodedOf 0x52 d b) 11 (λ e. omega arith) z in
-    let j = written-judged 0x52 d b (w .1) in
-    let n : length d / 7 ≡ f .n = omega (arith, length-joined (λ i. entryData (getD (f .entries) i blank)) 7 (λ _. refl) (f .n)) in
-    let r : firsts (entryOf d) (f .n) ≡ take (f .n) (f .entries) =
-    read-rows blank 7 entryOf entryData (λ _. refl) InTypes entry-read (f .entries) (f .n) (omega (arith, leb-true (f .n) 75 (w .0))) t in
-    rw (w .0, written-back 0x52 d b (w .1), eq-eqb _ _ (j .0), j .0, n, r)
+data-read : (d : List ℕ) → Bytes d → content 0x52 d ≡ 0 → dataOf (fieldsOf d) ≡ d
+data-read d y h =
+    let c = count-52 d h in
+    laid-read visibles d (length d / 7) (omega arith)
+    (λ i k. entry-written (entrySlice visibles d i) (entry-length visibles d i k) (entry-bytes visibles d i k y))
+    ∙ ap (λ (i : ℕ). take i d) (c .0)
+    ∙ take-length d
 
-pub written-read-52 : (d b : List ℕ) → Bytes d → read52 d .refusal ≡ 0 → length d ≤ length b
-    → (write52 (read52 d .fields) b ≡ accepted (length d)) × (fill52 (read52 d .fields) b ≡ placed b 0 d)
-unfolding read52 write52 fill52
-written-read-52 d b y h k =
-    let m = entries-52 d h in
-    let n : ℕ = length d / 7 in
-    let l : 7 * n ≡ length d = omega arith in
-    let q : data52 (entriesOf d n) ≡ d = write-rows blank 7 entryOf entryData Bytes entry-written d n _ (omega arith) y ∙ ap (λ (i : ℕ). take i d) l ∙ take-length d in
-    rw (eq-eqb _ _ h, le-leb n 75 (m .1)) (written-anew 0x52 d b (data52 (entriesOf d n)) q h k)
+pub encode-decode : (f : Visible) (b b′ : List ℕ) (w : Written) (r : Decoded) → length (f .entries) ≡ 75
+    → ((i : ℕ) → i < f .n → InTypes (getD (f .entries) i blank))
+    → w ≡ writtenOf (refusalOf f) (dataOf f) b → b′ ≡ filledOf (refusalOf f) (dataOf f) b → w .refusal ≡ 0
+    → r ≡ decodedOf (take (w .length) b′)
+    → r ≡ record { refusal = 0; fields = record { n = f .n; entries = keptEntries visibles (f .entries) (f .n) } }
+unfolding decodedOf refusalOf
+encode-decode f b b′ w r l t answer left z read =
+    let d = dataOf f in
+    let c = call-back (refusalOf f) d b w b′ answer left z in
+    let j = cond-zero (leb (f .n) 75) (content 0x52 d) 11 (λ e. omega arith) (c .0) in
+    read ∙ ap decodedOf (c .1) ∙ rw (j .1, read-data f l (leb-true (f .n) 75 (j .0)) t)
+
+pub decode-encode : (d b b′ : List ℕ) (r : Decoded) (w : Written) → Bytes d → r ≡ decodedOf d → r .refusal ≡ 0 → length d ≤ length b
+    → w ≡ writtenOf (refusalOf (r .fields)) (dataOf (r .fields)) b → b′ ≡ filledOf (refusalOf (r .fields)) (dataOf (r .fields)) b
+    → (w ≡ accepted (length d)) × (b′ ≡ placed b 0 d)
+unfolding decodedOf refusalOf
+decode-encode d b b′ r w y read z room answer left =
+    let h : content 0x52 d ≡ 0 = sym (ap (λ (x : Decoded). x .refusal) read) ∙ z in
+    let f : r .fields ≡ fieldsOf d = ap (λ (x : Decoded). x .fields) read ∙ rw (eq-eqb _ _ h) in
+    let q : dataOf (fieldsOf d) ≡ d = data-read d y h in
+    let v : refusalOf (fieldsOf d) ≡ 0 = rw (le-leb (length d / 7) 75 (count-52 d h .1), q) h in
+    call-writes (refusalOf (r .fields)) (dataOf (r .fields)) b w b′ answer left d (ap dataOf f ∙ q) (ap refusalOf f ∙ v) room

@@ -1,8 +1,10 @@
 // 52h, the visible satellites, as fields and as data.
 ghost use mathlib.Core.Path.{_≡_};
-ghost use Prim.Native.Nat.{_+_, _*_, _≤_};
+ghost use Prim.Native.Nat.{_*_, _≤_};
 ghost use lib.ListN.{length, take};
-ghost use Rattle.fields_52.specs.Visible.{entryOf, entriesOf, read52, entryData, entriesData, write52, fill52};
+ghost use Rattle.octets.specs.Delivery.{writtenOf, filledOf};
+ghost use Rattle.encoding.specs.Entries.{entriesOf, entriesData};
+ghost use Rattle.fields_52.specs.Fields.{entryOf, entryData, visibles, dataOf, decodedOf, refusalOf};
 
 // An entry of 52h: a satellite, and where it stands.
 pub struct Entry {
@@ -21,31 +23,29 @@ pub struct Visible {
 }
 
 // What decoding 52h gives: a refusal with blank fields, or 0 with the fields.
-pub struct VisibleRead {
+pub struct Decoded {
     pub refusal: u8,
     pub fields: Visible,
 }
 
-// The entry at an index.
-fn entry_at(body: &[u8], i: usize) -> Entry
-    requires { ⌜ 7 * i + 7 ≤ length (now body) ⌝ }
-    ensures { λ r. ⌜ r ≡ entryOf (now (body .entry)) i ⌝ }
+// An entry from its bytes.
+fn entry_of(e: &[u8]) -> Entry
+    ensures { λ r. ⌜ r ≡ entryOf (now (e .entry)) ⌝ }
 {
-    let at = 7 * i;
     Entry {
-        system: octets::byte_at(body, at),
-        number: octets::byte_at(body, at + 1),
-        carrier: numbers::int8_of(octets::byte_at(body, at + 2)),
-        elevation: octets::byte_at(body, at + 3),
-        azimuth: numbers::u16_at(body, at + 4),
-        signal: octets::byte_at(body, at + 6),
+        system: octets::byte_at(e, 0),
+        number: octets::byte_at(e, 1),
+        carrier: numbers::int8_of(octets::byte_at(e, 2)),
+        elevation: octets::byte_at(e, 3),
+        azimuth: numbers::u16_at(e, 4),
+        signal: octets::byte_at(e, 6),
     }
 }
 
 // The first n entries; the others are blank.
-fn first_entries(body: &[u8], n: usize) -> Visible
+fn first_entries(body: &[u8], n: usize) -> [Entry; 75]
     requires { ⌜ (n ≤ 75) × (7 * n ≤ length (now body)) ⌝ }
-    ensures { λ r. ⌜ r ≡ entriesOf (now (body .entry)) n ⌝ }
+    ensures { λ r. ⌜ r ≡ entriesOf visibles (now (body .entry)) n ⌝ }
 {
     let mut entries = [Entry {
         system: 0,
@@ -57,32 +57,37 @@ fn first_entries(body: &[u8], n: usize) -> Visible
     }; 75];
     let mut i: usize = 0;
     while i < n {
-        let e = entry_at(body, i);
+        let at = 7 * i;
+        let e = entry_of(&body[at..at + 7]);
         entries[i] = e;
         i += 1;
     }
-    Visible {
-        n: n,
-        entries: entries,
-    }
+    entries
 }
 
 // The fields of 52h data.
-pub fn decode_52(body: &[u8]) -> VisibleRead
-    ensures { λ r. ⌜ r ≡ read52 (now (body .entry)) ⌝ }
+pub fn decode_52(body: &[u8]) -> Decoded
+    ensures { λ r. ⌜ r ≡ decodedOf (now (body .entry)) ⌝ }
 {
     let refusal = kinds::content(0x52, body);
     if refusal != 0 {
-        let blank = first_entries(body, 0);
-        return VisibleRead {
+        let none = first_entries(body, 0);
+        return Decoded {
             refusal: refusal,
-            fields: blank,
+            fields: Visible {
+                n: 0,
+                entries: none,
+            },
         };
     }
-    let fields = first_entries(body, body.len() / 7);
-    VisibleRead {
+    let n = body.len() / 7;
+    let entries = first_entries(body, n);
+    Decoded {
         refusal: 0,
-        fields: fields,
+        fields: Visible {
+            n: n,
+            entries: entries,
+        },
     }
 }
 
@@ -105,7 +110,7 @@ fn entry_data(e: Entry) -> [u8; 7]
 // The data of the first n entries, at the start of an array of the longest data.
 fn entries_data(entries: [Entry; 75], n: usize) -> [u8; 525]
     requires { ⌜ n ≤ 75 ⌝ }
-    ensures { λ r. ⌜ take (7 * n) r ≡ entriesData entries n ⌝ }
+    ensures { λ r. ⌜ take (7 * n) r ≡ entriesData visibles entries n ⌝ }
 {
     let mut all = [0u8; 525];
     let mut i: usize = 0;
@@ -120,7 +125,8 @@ fn entries_data(entries: [Entry; 75], n: usize) -> [u8; 525]
 
 // The data of 52h from its fields. More than 75 entries are refused; those past n are ignored.
 pub fn encode_52(f: Visible, buf: &mut [u8]) -> octets::Written
-    ensures { λ r. ⌜ (r ≡ write52 f (now (buf .entry))) × (now (buf .exit) ≡ fill52 f (now (buf .entry))) ⌝ }
+    ensures { λ r. ⌜ (r ≡ writtenOf (refusalOf f) (dataOf f) (now (buf .entry)))
+        × (now (buf .exit) ≡ filledOf (refusalOf f) (dataOf f) (now (buf .entry))) ⌝ }
 {
     let n = f.n;
     let entries = f.entries;

@@ -6,11 +6,12 @@ use lib.ListN.{length}
 use Rattle.kinds.specs.Kinds.{content}
 use Rattle.lookup.specs.declared.Found.{Found}
 use Rattle.lookup.specs.declared.Found.the-variants.{At, Nothing, Refused}
-use Rattle.fields_52.specs.Visible.{entryOf}
+use Rattle.encoding.specs.Entries.{entrySlice}
+use Rattle.fields_52.specs.Fields.{entryOf, visibles}
 
 -- the entry at an index has both
 abbrev pub Holds : List ℕ → ℕ → ℕ → ℕ → Type 0
-Holds d s n i = (entryOf d i .system ≡ s) × (entryOf d i .number ≡ n)
+Holds d s n i = let e = entryOf (entrySlice visibles d i) in (e .system ≡ s) × (e .number ≡ n)
 
 -- data that fails gives its refusal; else any one index whose entry has both, or none exactly when no entry does
 abbrev pub Finds : List ℕ → ℕ → ℕ → Found → Type 0

@@ -13,7 +13,7 @@ use fields_46::Time;
 use fields_49::Ephemeris;
 use fields_49::Glonass;
 use fields_49::Gps;
-use fields_one::OneByte;
+use fields_byte::OneByte;
 use octets::Written;
 
 fn number(n: u64) {
@@ -85,23 +85,27 @@ fn answer(w: Written) {
 }
 
 fn run_empty(id: u8, d: &[u8], buf: &mut [u8]) {
-    let refusal = fields_empty::decode_empty(id, d);
-    octet(refusal);
-    answer(fields_empty::encode_empty(id, buf));
+    match fields_byte::decode_empty(id, d) {
+        fields_byte::DecodedEmpty::Empty => octet(0),
+        fields_byte::DecodedEmpty::Refused(v) => octet(v),
+    }
+    answer(fields_byte::encode_empty(id, buf));
 }
 
 fn run_one(id: u8, d: &[u8], count: u8, value: u8, buf: &mut [u8]) {
-    let r = fields_one::decode_one_byte(id, d);
-    octet(r.refusal);
-    if r.refusal == 0 {
-        number(r.fields.count as u64);
-        octet(r.fields.value);
+    match fields_byte::decode_one_byte(id, d) {
+        fields_byte::Decoded::Fields(f) => {
+            octet(0);
+            number(f.count as u64);
+            octet(f.value);
+        }
+        fields_byte::Decoded::Refused(v) => octet(v),
     }
     let f = OneByte {
         count: count as usize,
         value: value,
     };
-    answer(fields_one::encode_one_byte(id, f, buf));
+    answer(fields_byte::encode_one_byte(id, f, buf));
 }
 
 fn run_20(d: &[u8], system: u8, satellite: u8, buf: &mut [u8]) {

@@ -3,30 +3,27 @@ use mathlib.Core.Path.{sym, _∙_}
 use native.Mathlib.Omega.{arith}
 use borrow.Author.Needs.{needs}
 use borrow.Author.Tests.{eq-eqb, ne-eqb}
-use Rattle.encoding.proofs.AcceptedLaws.{entries-52}
-use Rattle.fields_52.specs.Visible.{read52}
+use Rattle.encoding.proofs.EntryLaws.{read-none}
+use Rattle.fields_52.specs.Fields.{visibles, decodedOf}
+use Rattle.fields_52.proofs.EntryCount.{count-52}
 use Rattle.fields_52.proofs.decode_52.Statement.{statement}
 use Rattle.fields_52.proofs.decode_52.Tie as tie
 
-content-requires : tie.Need-content-requires
-content-requires c κs = tt
-
-first-entries-requires : tie.Need-first-entries-requires
-first-entries-requires c κs = search needs
-
 returns : tie.Need-returns
-unfolding read52
+unfolding decodedOf
 returns c =
-    let r = c .before .before .content in
-    rw (ne-eqb _ _ (λ e. c .before .if1 .taken (r .ensures ∙ e)), r .ensures, c .first-entries .ensures)
+    let p = c .before .before in
+    let r = p .content .ensures in
+    let none = c .first-entries .ensures ∙ sym (read-none visibles (p .before .before .args .body .now)) in
+    rw (ne-eqb _ _ (λ e. c .before .if1 .taken (r ∙ e)), r, none)
 
 first-entries-requires-2 : tie.Need-first-entries-requires-2
 first-entries-requires-2 c κs =
-    let e = entries-52 (c .before .before .before .args .body .now) (sym (c .before .content .ensures) ∙ c .if1 .left) in
+    let e = count-52 (c .before .before .before .args .body .now) (sym (c .before .content .ensures) ∙ c .if1 .left) in
     (omega arith, omega arith)
 
 returns-2 : tie.Need-returns-2
-unfolding read52
+unfolding decodedOf
 returns-2 c =
     let e = sym (c .before .before .content .ensures) ∙ c .before .if1 .left in
     rw (eq-eqb _ _ e, c .first-entries2 .ensures, e)
@@ -34,4 +31,4 @@ returns-2 c =
 pub decode-52-spec : {M : Type 1} → statement M
 decode-52-spec =
     tie.close
-    (tie.spec content-requires first-entries-requires returns first-entries-requires-2 returns-2)
+    (tie.spec (λ c κs. tt) (λ c κs. search needs) returns first-entries-requires-2 returns-2)

@@ -1,47 +1,28 @@
--- `first_entries` meets its contract. The loop's invariant: the first i elements are the first i entries, and the others are blank.
-use mathlib.Core.Path.{_≡_, refl, _∙_}
-use mathlib.Core.List.{_++_}
-use Prim.Native.Nat.{_-_, _≤_}
+-- `first_entries` meets its contract. The loop's invariant: the array holds the first i entries, and blank ones.
+use mathlib.Core.Path.{_≡_}
+use Prim.Native.Nat.{_*_, _-_, _≤_}
 use native.Mathlib.Omega.{arith}
-use lib.ListN.{set, replicate}
-use Rattle.encoding.specs.Entries.{firsts}
-use Rattle.encoding.proofs.EntryLaws.{fill-more}
-use Rattle.fields_52.specs.Visible.{entryOf, blank}
+use Rattle.encoding.proofs.EntryLaws.{read-none, read-more}
+use Rattle.encoding.specs.Entries.{entriesOf}
+use Rattle.fields_52.specs.Fields.{visibles}
 use Rattle.fields_52.proofs.first_entries.Statement.{statement}
 use Rattle.fields_52.proofs.first_entries.Tie as tie
 
 abbrev Inv-loop : tie.InvT-loop
-Inv-loop body n entries₀ i₀ entries i = (i ≤ n) × (entries ≡ firsts (entryOf body) i ++ replicate (75 - i) blank)
+Inv-loop body n entries₀ i₀ entries i = (i ≤ n) × (entries ≡ entriesOf visibles body i)
 
 abbrev μ-loop : tie.MeasureT-loop
 μ-loop body n entries₀ i₀ entries i = n - i
 
 loop-holds : tie.Need-loop-holds Inv-loop μ-loop
-unfolding firsts
-loop-holds c = (omega arith, refl)
-
-entry-at-requires : tie.Need-entry-at-requires Inv-loop μ-loop
-entry-at-requires c κs = omega arith
-
-mul-entries : tie.Need-mul-entries Inv-loop μ-loop
-mul-entries c = omega arith
-
-array-set-from-entries : tie.Need-array-set-from-entries Inv-loop μ-loop
-array-set-from-entries c = omega arith
-
-add-i : tie.Need-add-i Inv-loop μ-loop
-add-i c = omega arith
-
-loop-less : tie.Need-loop-less Inv-loop μ-loop
-loop-less c = omega arith
+loop-holds c = (omega arith, read-none visibles (c .before .args .body .now))
 
 loop-again : tie.Need-loop-again Inv-loop μ-loop
 loop-again c =
-    let l = c .before .before in
-    let b = l .before .before .args .body .now in
+    let l = c .before .before .before in
     let i = l .loop .i in (
       omega arith,
-      (λ k. set (l .loop .inv .1 k) i (c .entry-at .ensures k)) ∙ fill-more (entryOf b) blank 75 i (omega arith),
+      read-more visibles (l .before .before .args .body .now) i (7 * i) (omega arith) (omega arith) _ (l .loop .inv .1) _ (c .entry-of .ensures),
     )
 
 returns : tie.Need-returns Inv-loop μ-loop
@@ -56,10 +37,15 @@ first-entries-spec =
     Inv-loop
     μ-loop
     loop-holds
-    entry-at-requires
-    mul-entries
-    array-set-from-entries
-    add-i
-    loop-less
+    (λ c. omega arith)
+    (λ c. omega arith)
+    (λ c. omega arith)
+    (λ c. omega arith)
+    (λ c. omega arith)
+    (λ c κs. tt)
+    (λ c. omega arith)
+    (λ c. omega arith)
+    (λ c. omega arith)
+    (λ c. omega arith)
     loop-again
     returns)

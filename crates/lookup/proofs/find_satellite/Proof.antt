@@ -1,11 +1,16 @@
 -- `find_satellite` meets its contract. The loop's invariant: no entry passed has both.
-use mathlib.Core.Path.{_≡_, sym, _∙_}
+use mathlib.Core.Path.{_≡_, sym, ap, _∙_}
 use mathlib.Core.Bool.{and-eq-true-iff}
-use Prim.Native.Nat.{ℕ, _-_, _≤_, _<_}
+use mathlib.Core.List.{List}
+use Prim.Native.Nat.{ℕ, _+_, _*_, _-_, _≤_, _<_}
 use native.Mathlib.Omega.{arith}
 use borrow.Author.Count.{below-more}
 use borrow.Author.Tests.{eqb-true, eq-eqb}
+use Rattle.ranges.specs.Ranges.{byte}
 use Rattle.ranges.proofs.CountLaws.{never}
+use Rattle.encoding.specs.Entries.{entrySlice}
+use Rattle.encoding.proofs.EntryLaws.{entry-byte}
+use Rattle.fields_52.specs.Fields.{visibles}
 use Rattle.lookup.specs.Lookup.{Holds}
 use Rattle.lookup.proofs.find_satellite.Statement.{statement}
 use Rattle.lookup.proofs.find_satellite.Tie as tie
@@ -16,8 +21,12 @@ Inv-loop body system number refusal n i₀ i = (i ≤ n) × ((k : ℕ) → k < i
 abbrev μ-loop : tie.MeasureT-loop
 μ-loop body system number refusal n i₀ i = n - i
 
-content-requires : tie.Need-content-requires Inv-loop μ-loop
-content-requires c κs = tt
+-- an entry's first bytes, as the code reads them
+first : (d : List ℕ) (i : ℕ) → byte d (7 * i) ≡ byte (entrySlice visibles d i) 0
+first d i = sym (entry-byte visibles d i 0 (omega arith) ∙ ap (byte d) (omega arith))
+
+second : (d : List ℕ) (i : ℕ) → byte d (7 * i + 1) ≡ byte (entrySlice visibles d i) 1
+second d i = sym (entry-byte visibles d i 1 (omega arith) ∙ ap (byte d) (omega arith))
 
 returns : tie.Need-returns Inv-loop μ-loop
 returns c = (sym (c .before .content .ensures), c .if1 .taken)
@@ -25,43 +34,32 @@ returns c = (sym (c .before .content .ensures), c .if1 .taken)
 loop-holds : tie.Need-loop-holds Inv-loop μ-loop
 loop-holds c = (omega arith, λ k h. absurd (omega arith))
 
-mul-at : tie.Need-mul-at Inv-loop μ-loop
-mul-at c = omega arith
-
-byte-at-requires : tie.Need-byte-at-requires Inv-loop μ-loop
-byte-at-requires c κs = tt
-
-add-byte-at : tie.Need-add-byte-at Inv-loop μ-loop
-add-byte-at c = omega arith
-
-byte-at-requires-2 : tie.Need-byte-at-requires-2 Inv-loop μ-loop
-byte-at-requires-2 c κs = tt
-
 returns-2 : tie.Need-returns-2 Inv-loop μ-loop
 returns-2 c =
     let p = c .before .before in
     let g = p .before .before .before in
     let a = g .before .before .before .args in
     let b = and-eq-true-iff _ _ .0 (c .if2 .taken) in
-    let first : p .byte-at .result ≡ a .system = eqb-true _ _ (b .0) in
-    let second : c .before .byte-at2 .result ≡ a .number = eqb-true _ _ (b .1) in (
+    let d = a .body .now in
+    let i = p .before .before .loop .i in
+    let system : p .byte-at .result ≡ a .system = eqb-true _ _ (b .0) in
+    let number : c .before .byte-at2 .result ≡ a .number = eqb-true _ _ (b .1) in (
       sym (g .before .content .ensures) ∙ g .if1 .left,
       omega arith,
-      (sym (p .byte-at .ensures) ∙ first, sym (c .before .byte-at2 .ensures) ∙ second),
+      (sym (p .byte-at .ensures ∙ first d i) ∙ system, sym (c .before .byte-at2 .ensures ∙ second d i) ∙ number),
     )
-
-add-i : tie.Need-add-i Inv-loop μ-loop
-add-i c = omega arith
-
-loop-less : tie.Need-loop-less Inv-loop μ-loop
-loop-less c = omega arith
 
 loop-again : tie.Need-loop-again Inv-loop μ-loop
 loop-again c =
-    let p = c .before .before in (
+    let p = c .before .before in
+    let l = p .before .before in
+    let d = l .before .before .before .before .args .body .now in
+    let i = l .loop .i in
+    let system = p .byte-at .ensures ∙ first d i in
+    let number = c .before .byte-at2 .ensures ∙ second d i in (
       omega arith,
-      below-more _ _ (p .before .before .loop .inv .1)
-          (λ h. never _ (and-eq-true-iff _ _ .1 (eq-eqb _ _ (p .byte-at .ensures ∙ h .0), eq-eqb _ _ (c .before .byte-at2 .ensures ∙ h .1))) (c .if2 .left)),
+      below-more _ _ (l .loop .inv .1)
+          (λ h. never _ (and-eq-true-iff _ _ .1 (eq-eqb _ _ (system ∙ h .0), eq-eqb _ _ (number ∙ h .1))) (c .if2 .left)),
     )
 
 returns-3 : tie.Need-returns-3 Inv-loop μ-loop
@@ -75,15 +73,15 @@ find-satellite-spec =
     (tie.spec
     Inv-loop
     μ-loop
-    content-requires
+    (λ c κs. tt)
     returns
     loop-holds
-    mul-at
-    byte-at-requires
-    add-byte-at
-    byte-at-requires-2
+    (λ c. omega arith)
+    (λ c κs. tt)
+    (λ c. omega arith)
+    (λ c κs. tt)
     returns-2
-    add-i
-    loop-less
+    (λ c. omega arith)
+    (λ c. omega arith)
     loop-again
     returns-3)

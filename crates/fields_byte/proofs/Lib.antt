@@ -1,0 +1,3 @@
+pub mod EmptyRoundTrips
+pub mod RoundTrips
+pub mod Refusals

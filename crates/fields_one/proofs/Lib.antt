@@ -1,2 +1,0 @@
-pub mod RoundTrips
-pub mod Refusals
