@@ -1,5 +1,6 @@
 pub mod WrittenLaws
 pub mod AcceptedLaws
 pub mod EntryLaws
+pub mod RoundTripLaws
 pub mod Vectors
 pub mod CallLaws

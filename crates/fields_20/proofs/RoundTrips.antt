@@ -1,29 +1,40 @@
--- The round trip of 20h: reading what was written gives the fields, and writing what was read gives the data.
-use mathlib.Core.Path.{_≡_, refl}
-use mathlib.Core.List.{List}
-use Prim.Native.Nat.{ℕ, _≤_}
-use borrow.Author.Tests.{eq-eqb}
-use lib.ListN.{length, take}
-use Rattle.octets.specs.Placing.{placed}
-use Rattle.ranges.specs.Ranges.{in20}
-use Rattle.kinds.specs.Kinds.{table, rowIn}
-use Rattle.octets.specs.Delivery.{accepted}
-use Rattle.encoding.proofs.WrittenLaws.{written-judged, written-back, written-anew}
-use Rattle.encoding.proofs.AcceptedLaws.{one-length, spelled}
+-- The round trips of 20h: the layout is a list of rows, and reading and writing rows are inverse.
+use mathlib.Core.Path.{_≡_, refl, sym}
+use mathlib.Core.List.{List, []}
+use mathlib.Core.Option.{Option, none, some}
+use Prim.Native.Nat.{ℕ}
+use lib.ListN.{length}
+use Rattle.kinds.specs.Kinds.{table, rowIn, content}
+use Rattle.encoding.specs.RoundTrip.{EncodeDecode, DecodeEncode}
+use Rattle.encoding.proofs.AcceptedLaws.{Bytes, one-length}
+use Rattle.encoding.proofs.RoundTripLaws as laws
+use Rattle.rows.specs.Layout.{AllHeld}
+use Rattle.rows.proofs.RowLaws.{nat, readRows, widths, read-joined, joined-read}
+use Rattle.fields_20.specs.Fields.{fieldsOf, rowsOf, dataOf, decodedOf}
 use Rattle.fields_20.specs.declared.Satellite.{Satellite}
-use Rattle.fields_20.specs.Fields.{satelliteOf, read20, data20, write20, fill20}
+use Rattle.fields_20.specs.declared.Decoded.{Decoded}
 
--- 20h
-pub read-written-20 : (f : Satellite) (b : List ℕ) → write20 f b .refusal ≡ 0
-    → read20 (take (write20 f b .length) (fill20 f b)) ≡ record { refusal = 0; fields = f }
-unfolding read20
-read-written-20 f b z =
-    let j = written-judged 0x20 (data20 f) b z in
-    rw (written-back 0x20 (data20 f) b z, eq-eqb _ _ (j .0), j .0)
+read-written : (f : Satellite) → AllHeld (rowsOf f) → content 0x20 (dataOf f) ≡ 0 → fieldsOf (dataOf f) ≡ f
+unfolding fieldsOf dataOf readRows
+read-written f h c =
+    let e = read-joined [] (rowsOf f) h in
+    λ k. record {
+      system = nat (e k) 0;
+      number = nat (e k) 1;
+    }
 
-pub written-read-20 : (d b : List ℕ) → read20 d .refusal ≡ 0 → length d ≤ length b
-    → (write20 (read20 d .fields) b ≡ accepted (length d)) × (fill20 (read20 d .fields) b ≡ placed b 0 d)
-unfolding read20 table rowIn
-written-read-20 d b h k =
-    let q : data20 (satelliteOf d) ≡ d = spelled 2 0 d (one-length 0x20 2 in20 d refl h) in
-    rw (eq-eqb _ _ h) (written-anew 0x20 d b (data20 (satelliteOf d)) q h k)
+written-read : (d : List ℕ) → Bytes d → content 0x20 d ≡ 0 → dataOf (fieldsOf d) ≡ d
+unfolding fieldsOf dataOf readRows widths table rowIn
+written-read d y h = joined-read (rowsOf (fieldsOf d)) 0 d (sym (one-length 0x20 2 _ d refl h)) y
+
+abbrev held : Decoded → Option Satellite
+held (Decoded.Fields f) = some f
+held (Decoded.Refused v) = none
+
+pub encode-decode : EncodeDecode 0x20 dataOf decodedOf Decoded.Fields (λ f. AllHeld (rowsOf f))
+unfolding decodedOf
+encode-decode = laws.encode-fields 0x20 fieldsOf dataOf Decoded.Fields Decoded.Refused (λ f. AllHeld (rowsOf f)) (λ f. f) read-written
+
+pub decode-encode : DecodeEncode 0x20 dataOf decodedOf Decoded.Fields Bytes
+unfolding decodedOf
+decode-encode = laws.decode-fields 0x20 fieldsOf dataOf Decoded.Fields Decoded.Refused held (λ g. refl) (λ n. refl) written-read

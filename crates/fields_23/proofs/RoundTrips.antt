@@ -1,63 +1,80 @@
--- The round trip of 23h. Reading what was written gives the fields, with a zone past the count blank; writing what was read
--- gives the data.
-use mathlib.Core.Path.{_≡_, refl}
+-- The round trips of 23h: the layout is a list of rows, and reading and writing rows are inverse. Hours and minutes are not kept
+-- where the count is 0.
+use mathlib.Core.Path.{_≡_, refl, sym, ap, _∙_}
 use mathlib.Core.Bool.{cond}
-use mathlib.Core.List.{List}
+use mathlib.Core.List.{List, [], _∷_}
 use mathlib.Core.Logic.{_⊎_, inl, inr}
-use Prim.Native.Nat.{ℕ, _≤_, _<_}
+use mathlib.Core.Option.{Option, none, some}
+use Prim.Native.Nat.{ℕ, zero, suc}
 use native.Mathlib.Omega.{arith}
-use borrow.Author.Tests.{eq-eqb, le-leb, leb-true}
-use lib.Dec.{eqb, leb}
+use borrow.Author.Tests.{eq-eqb}
+use lib.Dec.{eqb}
+use lib.IntN.{pos}
 use lib.ListN.{length, take}
-use lib.Seq.{length-take-le}
-use lib.Signed.{mag}
-use Rattle.octets.specs.Placing.{placed}
+use Rattle.numbers.specs.Number.{bytesOf, numberAt}
 use Rattle.numbers.specs.Signed.{signed}
-use Rattle.numbers.proofs.SignedLaws.{signed-unsigned, unsigned-signed}
-use Rattle.ranges.specs.Ranges.{byte, in23}
-use Rattle.kinds.specs.Kinds.{table, rowIn}
-use Rattle.octets.specs.Delivery.{accepted}
-use Rattle.encoding.specs.Encoding.{encodedOf}
-use Rattle.octets.proofs.DeliveryLaws.{asked}
-use Rattle.encoding.proofs.WrittenLaws.{written-judged, written-back, written-anew}
-use Rattle.encoding.proofs.AcceptedLaws.{Bytes, two-lengths, spelled}
+use Rattle.kinds.specs.Kinds.{table, rowIn, content}
+use Rattle.encoding.specs.RoundTrip.{EncodeDecode, DecodeEncode}
+use Rattle.encoding.proofs.AcceptedLaws.{Bytes, two-lengths}
+use Rattle.encoding.proofs.RoundTripLaws as laws
+use Rattle.rows.specs.Layout.{AllHeld, INT8S, joined}
+use Rattle.rows.proofs.RowLaws.{int, readRows, widths, read-joined, joined-read}
+use Rattle.fields_23.specs.Fields.{fieldsOf, allRows, rowsOf, dataOf, decodedOf}
 use Rattle.fields_23.specs.declared.Zone.{Zone}
-use Rattle.fields_23.specs.Fields.{zoneOf, blank23, read23, data23, write23, fill23}
+use Rattle.fields_23.specs.declared.Decoded.{Decoded}
 
--- 23h: without bytes there is no zone
-abbrev pub kept23 : Zone → Zone
-kept23 f = cond (eqb (f .count) 2) f blank23
+abbrev pub kept : Zone → Zone
+kept f = cond (eqb (f .count) 2) f (record { count = 0; hours = pos 0; minutes = pos 0 })
 
-zone-kept : (f : Zone) → mag (f .hours) < 128 → mag (f .minutes) < 128 → (f .count ≡ 0) ⊎ (f .count ≡ 2) → zoneOf (data23 f) ≡ kept23 f
-unfolding signed
-zone-kept f hh hm (inl c) = rw c
-zone-kept f hh hm (inr c) =
-    rw c (λ k. record {
-      count = 2;
-      hours = signed-unsigned 8 (f .hours) (omega arith) hh k;
-      minutes = signed-unsigned 8 (f .minutes) (omega arith) hm k;
+-- acceptable data has as many bytes as the count says
+counts : (f : Zone) (n : ℕ) → (length (joined (take n (allRows f))) ≡ 0) ⊎ (length (joined (take n (allRows f))) ≡ 2) → (n ≡ 0) ⊎ (n ≡ 2)
+unfolding joined bytesOf
+counts f zero l = inl refl
+counts f (suc zero) (inl e) = absurd (omega arith)
+counts f (suc zero) (inr e) = absurd (omega arith)
+counts f (suc (suc zero)) l = inr refl
+counts f (suc (suc (suc n))) (inl e) = absurd (omega arith)
+counts f (suc (suc (suc n))) (inr e) = absurd (omega arith)
+
+read-none : (f : Zone) → f .count ≡ 0 → fieldsOf (dataOf f) ≡ kept f
+unfolding fieldsOf dataOf joined numberAt signed
+read-none f c = rw c
+
+read-both : (f : Zone) → f .count ≡ 2 → AllHeld (INT8S (f .hours) ∷ INT8S (f .minutes) ∷ []) → fieldsOf (dataOf f) ≡ kept f
+unfolding fieldsOf dataOf readRows joined bytesOf
+read-both f c h =
+    let e = read-joined [] (INT8S (f .hours) ∷ INT8S (f .minutes) ∷ []) h in
+    let q : kept f ≡ f = rw (eq-eqb (f .count) 2 c) in
+    ap (λ (n : ℕ). fieldsOf (joined (take n (allRows f)))) c
+    ∙ (λ k. record {
+      count = sym c k;
+      hours = int (e k) 0;
+      minutes = int (e k) 1;
     })
+    ∙ sym q
 
-zone-data : (d : List ℕ) → Bytes d → (length d ≡ 0) ⊎ (length d ≡ 2) → data23 (zoneOf d) ≡ d
-zone-data d y (inl e) = rw e (spelled 0 0 d e)
-zone-data d y (inr e) =
-    rw (e, unsigned-signed 8 (byte d 0) (y 0 (omega arith)), unsigned-signed 8 (byte d 1) (y 1 (omega arith))) (spelled 2 0 d e)
+read-written : (f : Zone) → AllHeld (rowsOf f) → content 0x23 (dataOf f) ≡ 0 → fieldsOf (dataOf f) ≡ kept f
+unfolding dataOf table rowIn
+read-written f h c = elim (counts f (f .count) (two-lengths 0x23 0 2 _ (dataOf f) refl c)) [ inl e ↦ read-none f e | inr e ↦ read-both f e (rw e at h) ]
 
-pub read-written-23 : (f : Zone) (b : List ℕ) → mag (f .hours) < 128 → mag (f .minutes) < 128 → write23 f b .refusal ≡ 0
-    → read23 (take (write23 f b .length) (fill23 f b)) ≡ record { refusal = 0; fields = kept23 f }
-unfolding read23 write23 fill23 table rowIn
-read-written-23 f b hh hm z =
-    let d = data23 f in
-    let w = asked (leb (f .count) 2) (encodedOf 0x23 d b) 11 (λ e. omega arith) z in
-    let j = written-judged 0x23 d b (w .1) in
-    let n : length d ≡ f .count = length-take-le (f .count) _ (leb-true (f .count) 2 (w .0)) in
-    let l : (f .count ≡ 0) ⊎ (f .count ≡ 2) = rw n at (two-lengths 0x23 0 2 in23 d refl (j .0)) in
-    rw (w .0, written-back 0x23 d b (w .1), eq-eqb _ _ (j .0), j .0, zone-kept f hh hm l)
+written-read : (d : List ℕ) → Bytes d → content 0x23 d ≡ 0 → dataOf (fieldsOf d) ≡ d
+unfolding fieldsOf dataOf readRows widths table rowIn
+written-read d y h = go (two-lengths 0x23 0 2 _ d refl h)
+  where
+    go : (length d ≡ 0) ⊎ (length d ≡ 2) → dataOf (fieldsOf d) ≡ d
+    go (inl e) = ap (λ (n : ℕ). joined (take n (allRows (fieldsOf d)))) e ∙ joined-read [] 0 d (sym e) y
+    go (inr e) =
+        ap (λ (n : ℕ). joined (take n (allRows (fieldsOf d)))) e
+        ∙ joined-read (INT8S (fieldsOf d .hours) ∷ INT8S (fieldsOf d .minutes) ∷ []) 0 d (sym e) y
 
-pub written-read-23 : (d b : List ℕ) → Bytes d → read23 d .refusal ≡ 0 → length d ≤ length b
-    → (write23 (read23 d .fields) b ≡ accepted (length d)) × (fill23 (read23 d .fields) b ≡ placed b 0 d)
-unfolding read23 write23 fill23 table rowIn
-written-read-23 d b y h k =
-    let l = two-lengths 0x23 0 2 in23 d refl h in
-    let n : length d ≤ 2 = elim l [ inl e ↦ omega arith | inr e ↦ omega arith ] in
-    rw (eq-eqb _ _ h, le-leb (length d) 2 n) (written-anew 0x23 d b (data23 (zoneOf d)) (zone-data d y l) h k)
+abbrev held : Decoded → Option Zone
+held (Decoded.Fields f) = some f
+held (Decoded.Refused v) = none
+
+pub encode-decode : EncodeDecode 0x23 dataOf decodedOf (λ f. Decoded.Fields (kept f)) (λ f. AllHeld (rowsOf f))
+unfolding decodedOf
+encode-decode = laws.encode-fields 0x23 fieldsOf dataOf Decoded.Fields Decoded.Refused (λ f. AllHeld (rowsOf f)) kept read-written
+
+pub decode-encode : DecodeEncode 0x23 dataOf decodedOf Decoded.Fields Bytes
+unfolding decodedOf
+decode-encode = laws.decode-fields 0x23 fieldsOf dataOf Decoded.Fields Decoded.Refused held (λ g. refl) (λ n. refl) written-read

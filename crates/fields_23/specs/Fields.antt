@@ -1,36 +1,39 @@
--- Document 01, 23h: fields from data (a refusal and no fields, or 0 and the fields), and data from fields (refused, or written to
--- the buffer's start).
+-- 23h: a zone, or none (document 01).
 use mathlib.Core.Bool.{cond}
 use mathlib.Core.List.{List, [], _∷_}
 use Prim.Native.Nat.{ℕ}
-use lib.Dec.{eqb, leb}
-use lib.IntN.{pos}
+use lib.Dec.{eqb}
 use lib.ListN.{length, take}
-use Rattle.numbers.specs.Signed.{int8, unsigned}
-use Rattle.ranges.specs.Ranges.{byte}
 use Rattle.kinds.specs.Kinds.{content}
-use Rattle.octets.specs.declared.Written.{Written}
-use Rattle.octets.specs.Delivery.{refused}
-use Rattle.encoding.specs.Encoding.{encodedOf, encodedInto}
+use Rattle.numbers.specs.Types.{int8sAt}
+use Rattle.rows.specs.Layout.{Row, INT8U, INT8S, joined}
 use Rattle.fields_23.specs.declared.Zone.{Zone}
-use Rattle.fields_23.specs.declared.ZoneRead.{ZoneRead}
+use Rattle.fields_23.specs.declared.Decoded.{Decoded}
 
--- 23h: INT8S hours, INT8S minutes, both or neither
-abbrev pub zoneOf : List ℕ → Zone
-zoneOf d = record { count = length d; hours = int8 (byte d 0); minutes = int8 (byte d 1) }
+-- the fields, by their offsets; without bytes hours and minutes are 0
+unfoldable pub fieldsOf : List ℕ → Zone
+fieldsOf d = record {
+  count = length d;
+  hours = int8sAt d 0;
+  minutes = int8sAt d 1;
+}
 
-abbrev pub blank23 : Zone
-blank23 = record { count = 0; hours = pos 0; minutes = pos 0 }
+-- a third row stands for any more bytes than a zone has: a length that is refused
+abbrev pub allRows : Zone → List Row
+allRows f =
+    INT8S (f .hours)
+    ∷ INT8S (f .minutes)
+    ∷ INT8U 0
+    ∷ []
 
-unfoldable pub read23 : List ℕ → ZoneRead
-read23 d = record { refusal = content 0x23 d; fields = cond (eqb (content 0x23 d) 0) (zoneOf d) blank23 }
+-- the rows, in their order: as many as the count says, the others are ignored
+abbrev pub rowsOf : Zone → List Row
+rowsOf f = take (f .count) (allRows f)
 
--- bytes past the count are ignored; a count above 2 is refused by 11, as 1 is by the data's length
-abbrev pub data23 : Zone → List ℕ
-data23 f = take (f .count) (unsigned 8 (f .hours) ∷ unsigned 8 (f .minutes) ∷ [])
+-- the data
+unfoldable pub dataOf : Zone → List ℕ
+dataOf f = joined (rowsOf f)
 
-unfoldable pub write23 : Zone → List ℕ → Written
-write23 f b = cond (leb (f .count) 2) (encodedOf 0x23 (data23 f) b) (refused 11)
-
-unfoldable pub fill23 : Zone → List ℕ → List ℕ
-fill23 f b = cond (leb (f .count) 2) (encodedInto 0x23 (data23 f) b) b
+-- what a decoding answers, by the data's refusal
+unfoldable pub decodedOf : List ℕ → Decoded
+decodedOf d = cond (eqb (content 0x23 d) 0) (Decoded.Fields (fieldsOf d)) (Decoded.Refused (content 0x23 d))

@@ -1,8 +1,13 @@
-// 23h as fields and as data. Decoding gives a refusal with blank fields, or 0 with the fields. Encoding puts the data into a lent
-// buffer, or refuses and leaves the buffer as it is.
-ghost use mathlib.Core.Path.{_≡_};
-ghost use Rattle.fields_23.specs.Fields.{read23, write23, fill23};
+// 23h, a zone or none, as fields and as data.
+// Decoding gives the fields of acceptable data, or the refusal. Encoding lays the fields out and delivers them, so that fields out of
+// range are refused as their data would be.
 use octets::Written;
+ghost use mathlib.Core.Path.{_≡_};
+ghost use mathlib.Core.Bool.{cond};
+ghost use lib.Dec.{leb};
+ghost use Rattle.encoding.specs.Encoding.{encodedOf, encodedInto};
+ghost use Rattle.rows.specs.Layout.{words};
+ghost use Rattle.fields_23.specs.Fields.{fieldsOf, allRows, dataOf, decodedOf};
 
 // 23h: the zone, if the count of bytes is 2.
 pub struct Zone {
@@ -11,51 +16,59 @@ pub struct Zone {
     pub minutes: i8,
 }
 
-pub struct ZoneRead {
-    pub refusal: u8,
-    pub fields: Zone,
+pub enum Decoded {
+    Fields(Zone),
+    Refused(u8),
 }
 
-// The fields of 23h data. Without bytes hours and minutes are 0.
-pub fn decode_23(body: &[u8]) -> ZoneRead
-    ensures { λ r. ⌜ r ≡ read23 (now (body .entry)) ⌝ }
+fn read_23(body: &[u8]) -> Zone
+    ensures { λ r. ⌜ r ≡ fieldsOf (now (body .entry)) ⌝ }
+{
+    Zone {
+        count: body.len(),
+        hours: numbers::int8s_at(body, 0),
+        minutes: numbers::int8s_at(body, 1),
+    }
+}
+
+// The fields of 23h data.
+pub fn decode_23(body: &[u8]) -> Decoded
+    ensures { λ r. ⌜ r ≡ decodedOf (now (body .entry)) ⌝ }
 {
     let refusal = kinds::content(0x23, body);
     if refusal != 0 {
-        let blank = Zone {
-            count: 0,
-            hours: 0,
-            minutes: 0,
-        };
-        return ZoneRead {
-            refusal: refusal,
-            fields: blank,
-        };
+        return Decoded::Refused(refusal);
     }
-    let hours = numbers::int8_of(octets::byte_at(body, 0));
-    let minutes = numbers::int8_of(octets::byte_at(body, 1));
-    let fields = Zone {
-        count: body.len(),
-        hours: hours,
-        minutes: minutes,
-    };
-    ZoneRead {
-        refusal: 0,
-        fields: fields,
-    }
+    Decoded::Fields(read_23(body))
 }
 
-// The data of 23h from its fields. A count of 1 is found wrong in the data; hours and minutes are ignored where it is 0.
-pub fn encode_23(f: Zone, buf: &mut [u8]) -> Written
-    ensures { λ r. ⌜ (r ≡ write23 f (now (buf .entry))) × (now (buf .exit) ≡ fill23 f (now (buf .entry))) ⌝ }
+const WIDTHS_23: [usize; 3] = [1, 1, 1];
+
+fn words_23(f: Zone) -> [u64; 3]
+    ensures { λ r. ⌜ r ≡ words (allRows f) ⌝ }
 {
-    let count = f.count;
-    if 2 < count {
-        return Written {
-            refusal: 11,
-            length: 0,
-        };
+    [
+        numbers::int8_byte(f.hours) as u64,
+        numbers::int8_byte(f.minutes) as u64,
+        0,
+    ]
+}
+
+// How many rows there are of so many bytes: 3 of any more than a zone has.
+fn row_count(count: usize) -> usize
+    ensures { λ r. ⌜ r ≡ cond (leb count 2) count 3 ⌝ }
+{
+    if count <= 2 {
+        return count;
     }
-    let all = [numbers::int8_byte(f.hours), numbers::int8_byte(f.minutes)];
-    encoding::deliver(0x23, &all[..count], buf)
+    3
+}
+
+// The data of 23h from its fields.
+pub fn encode_23(f: Zone, buf: &mut [u8]) -> Written
+    ensures { λ r. ⌜ (r ≡ encodedOf 0x23 (dataOf f) (now (buf .entry)))
+        × (now (buf .exit) ≡ encodedInto 0x23 (dataOf f) (now (buf .entry))) ⌝ }
+{
+    let n = row_count(f.count);
+    rows::encode(0x23, &words_23(f), &WIDTHS_23[..n], buf)
 }

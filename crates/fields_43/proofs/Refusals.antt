@@ -1,26 +1,35 @@
--- A field that 43h does not allow, refused through the data's own range.
-use mathlib.Core.Path.{_≡_, refl, _∙_}
-use mathlib.Core.Bool.{Bool, true, false, cond}
+-- Fields that 43h does not allow, refused by 12: an antenna of 2, and parts that the result byte has no room for.
+use mathlib.Core.Path.{_≡_, refl, sym, ap, _∙_}
+use mathlib.Core.Bool.{Bool, true, false}
 use mathlib.Core.List.{List}
 use Prim.Native.Nat.{ℕ}
 use native.Mathlib.Omega.{arith}
-use Rattle.ranges.specs.Ranges.{antenna}
+use Rattle.numbers.proofs.NumberLaws.{number-one}
+use Rattle.ranges.specs.Ranges.{byte, antenna}
 use Rattle.kinds.specs.Kinds.{table, rowIn, allows, lengthOk, content}
 use Rattle.octets.specs.Delivery.{refused}
+use Rattle.octets.proofs.DeliveryLaws.{refused-by}
 use Rattle.encoding.specs.Encoding.{encodedOf, encodedInto}
-use Rattle.encoding.proofs.WrittenLaws.{refused-by}
+use Rattle.rows.specs.Layout.{joined}
+use Rattle.numbers.specs.Number.{bytesOf}
 use Rattle.fields_43.specs.declared.Outcome.{Outcome}
-use Rattle.fields_43.specs.Fields.{resultByte, data43, room43, write43, fill43}
-use Rattle.fields_43.proofs.RoundTrips.{antenna-of}
+use Rattle.fields_43.specs.Fields.{room, resultByte, dataOf}
+use Rattle.fields_43.proofs.RoundTrips.{result-kept, byte-written, no-room}
 
--- 43h: an antenna of 2
-pub antenna-43 : (f : Outcome) (b : List ℕ) → f .antenna ≡ 2 → (write43 f b ≡ refused 12) × (fill43 f b ≡ b)
-unfolding write43 fill43 content table rowIn lengthOk allows
-antenna-43 f b a = go (room43 f) refl
+by-12 : (f : Outcome) (b : List ℕ) → content 0x43 (dataOf f) ≡ 12 → (encodedOf 0x43 (dataOf f) b ≡ refused 12) × (encodedInto 0x43 (dataOf f) b ≡ b)
+by-12 f b v = refused-by (content 0x43 (dataOf f)) (dataOf f) b 12 v (λ z. omega arith)
+
+pub no-room-43 : (f : Outcome) (b : List ℕ) → room f ≡ false → (encodedOf 0x43 (dataOf f) b ≡ refused 12) × (encodedInto 0x43 (dataOf f) b ≡ b)
+no-room-43 f b e = by-12 f b (no-room f e)
+
+pub antenna-43 : (f : Outcome) (b : List ℕ) → f .antenna ≡ 2 → (encodedOf 0x43 (dataOf f) b ≡ refused 12) × (encodedInto 0x43 (dataOf f) b ≡ b)
+unfolding content table rowIn lengthOk allows dataOf joined bytesOf
+antenna-43 f b a = go (room f) refl
   where
-    go : (t : Bool) → room43 f ≡ t → (cond t (encodedOf 0x43 (data43 f) b) (refused 12) ≡ refused 12) × (cond t (encodedInto 0x43 (data43 f) b) b ≡ b)
+    go : (t : Bool) → room f ≡ t → (encodedOf 0x43 (dataOf f) b ≡ refused 12) × (encodedInto 0x43 (dataOf f) b ≡ b)
     go true e =
-        let q : antenna (resultByte f) ≡ 2 = antenna-of f e ∙ a in
-        let v : content 0x43 (data43 f) ≡ 12 = rw q in
-        refused-by 0x43 (data43 f) b 12 v (λ z. omega arith)
-    go false e = (refl, refl)
+        let p : byte (dataOf f) 1 ≡ resultByte f = sym (number-one (dataOf f) 1) ∙ byte-written f in
+        let q : antenna (byte (dataOf f) 1) ≡ 2 = ap antenna p ∙ ap (λ (o : Outcome). o .antenna) (result-kept f e) ∙ a in
+        let v : content 0x43 (dataOf f) ≡ 12 = rw q in
+        by-12 f b v
+    go false e = no-room-43 f b e

@@ -1,25 +1,28 @@
--- The round trip of 43h: reading what was written gives the fields, and writing what was read gives the data.
+-- The round trips of 43h: the layout is a list of rows, and reading and writing rows are inverse; the result byte holds its parts.
 use mathlib.Core.Path.{_≡_, refl, sym, ap, _∙_}
-use mathlib.Core.Bool.{Bool, true, false, not, _&&_, and-eq-true-iff}
+use mathlib.Core.Bool.{Bool, true, false, cond, not, _&&_, and-eq-true-iff}
 use mathlib.Core.List.{List, [], _∷_}
+use mathlib.Core.Option.{Option, none, some}
 use Prim.Native.Nat.{ℕ, _+_, _*_, _/_, _%_, _≤_, _<_}
 use native.Mathlib.Omega.{arith}
-use borrow.Author.Tests.{eq-eqb, eqb-true, eqb-false, le-leb, leb-true}
+use borrow.Author.Tests.{eqb-true, eqb-false, le-leb, leb-true}
 use lib.Dec.{eqb, leb}
-use lib.ListN.{length, take}
-use Rattle.octets.specs.Placing.{placed}
+use lib.ListN.{length}
+use Rattle.numbers.specs.Number.{bytesOf}
+use Rattle.numbers.specs.Types.{int8uAt}
+use Rattle.numbers.proofs.NumberLaws.{number-one}
 use Rattle.ranges.specs.Ranges.{all, byte, antenna, in43}
-use Rattle.kinds.specs.Kinds.{table, rowIn, only, content}
 use Rattle.ranges.proofs.CountLaws.{all-at}
-use Rattle.octets.specs.Delivery.{accepted}
-use Rattle.encoding.specs.Encoding.{encodedOf}
-use Rattle.octets.proofs.DeliveryLaws.{asked}
-use Rattle.encoding.proofs.WrittenLaws.{written-judged, written-back, written-anew}
-use Rattle.encoding.proofs.AcceptedLaws.{Bytes, accepted-parts, one-length, spelled}
+use Rattle.kinds.specs.Kinds.{table, rowIn, only, allows, lengthOk, content}
+use Rattle.encoding.specs.RoundTrip.{EncodeDecode, DecodeEncode}
+use Rattle.encoding.proofs.AcceptedLaws.{Bytes, accepted-parts, one-length}
+use Rattle.encoding.proofs.RoundTripLaws as laws
+use Rattle.rows.specs.Layout.{INT8U, joined}
+use Rattle.rows.proofs.RowLaws.{nat, readRows, widths, read-joined, joined-read}
+use Rattle.fields_43.specs.Fields.{resultOf, bitOf, room, resultByte, fieldsOf, rowsOf, dataOf, decodedOf}
 use Rattle.fields_43.specs.declared.Outcome.{Outcome}
-use Rattle.fields_43.specs.Fields.{resultOf, read43, bitOf, resultByte, data43, room43, write43, fill43}
+use Rattle.fields_43.specs.declared.Decoded.{Decoded}
 
--- 43h
 parts : (a g p l : ℕ) → a ≤ 3 → g ≤ 1 → p ≤ 1 → l ≤ 15 → let x = a * 64 + g * 32 + p * 16 + l in
     (antenna x ≡ a) × (x / 32 % 2 ≡ g) × (x / 16 % 2 ≡ p) × (x % 16 ≡ l)
 parts a g p l ha hg hp hl = (omega arith, omega arith, omega arith, omega arith)
@@ -48,49 +51,76 @@ bit-written n h = go (eqb n 1) refl
     go true e = sym (eqb-true n 1 e)
     go false e = let q = eqb-false n 1 e in omega arith
 
-result-kept : (f : Outcome) → room43 f ≡ true → resultOf (resultByte f) ≡ f
+-- the result byte is a byte, and where there is room it keeps its parts
+byte-small : (f : Outcome) → resultByte f < 256
+byte-small f = go (room f) refl
+  where
+    go : (t : Bool) → room f ≡ t → cond t (f .antenna * 64 + bitOf (f .glonass) * 32 + bitOf (f .gps) * 16 + f .low) 0x80 < 256
+    go true e =
+        let b = and-eq-true-iff (leb (f .antenna) 3) (leb (f .low) 15) .0 e in
+        omega (arith, leb-true (f .antenna) 3 (b .0), leb-true (f .low) 15 (b .1), bit-le (f .glonass), bit-le (f .gps))
+    go false e = omega arith
+
+pub result-kept : (f : Outcome) → room f ≡ true → resultOf (resultByte f) ≡ f
 result-kept f r =
     let b = and-eq-true-iff (leb (f .antenna) 3) (leb (f .low) 15) .0 r in
     let p = parts (f .antenna) (bitOf (f .glonass)) (bitOf (f .gps)) (f .low) (leb-true (f .antenna) 3 (b .0)) (bit-le (f .glonass)) (bit-le (f .gps)) (leb-true (f .low) 15 (b .1)) in
-    λ k. record {
+    rw r (λ k. record {
       antenna = p .0 k;
       glonass = (ap (λ (n : ℕ). eqb n 1) (p .1) ∙ bit-read (f .glonass)) k;
       gps = (ap (λ (n : ℕ). eqb n 1) (p .2) ∙ bit-read (f .gps)) k;
       low = p .3 k;
-    }
-
-pub antenna-of : (f : Outcome) → room43 f ≡ true → antenna (resultByte f) ≡ f .antenna
-antenna-of f r = ap (λ (o : Outcome). o .antenna) (result-kept f r)
+    })
 
 result-data : (b : ℕ) → b < 256 → resultByte (resultOf b) ≡ b
-result-data b h = rw (bit-written (b / 32 % 2) (omega arith), bit-written (b / 16 % 2) (omega arith)) (whole b h)
+result-data b h =
+    let r : room (resultOf b) ≡ true = and-eq-true-iff _ _ .1 (le-leb (antenna b) 3 (omega arith), le-leb (b % 16) 15 (omega arith)) in
+    rw (r, bit-written (b / 32 % 2) (omega arith), bit-written (b / 16 % 2) (omega arith)) (whole b h)
 
-result-room : (b : ℕ) → room43 (resultOf b) ≡ true
-result-room b = and-eq-true-iff _ _ .1 (le-leb (antenna b) 3 (omega arith), le-leb (b % 16) 15 (omega arith))
+-- fields without room are refused by 12
+pub no-room : (f : Outcome) → room f ≡ false → content 0x43 (dataOf f) ≡ 12
+unfolding content table rowIn lengthOk allows dataOf joined bytesOf
+no-room f e = let d : dataOf f ≡ 2 ∷ 0x80 ∷ 0 ∷ 0 ∷ 0 ∷ 0 ∷ [] = rw e in ap (content 0x43) d
 
-pub read-written-43 : (f : Outcome) (b : List ℕ) → write43 f b .refusal ≡ 0
-    → read43 (take (write43 f b .length) (fill43 f b)) ≡ record { refusal = 0; fields = f }
-unfolding read43 write43 fill43
-read-written-43 f b z =
-    let d = data43 f in
-    let w = asked (room43 f) (encodedOf 0x43 d b) 12 (λ e. omega arith) z in
-    let j = written-judged 0x43 d b (w .1) in
-    rw (w .0, written-back 0x43 d b (w .1), eq-eqb _ _ (j .0), j .0, result-kept f (w .0))
+has-room : (f : Outcome) → content 0x43 (dataOf f) ≡ 0 → room f ≡ true
+has-room f c = go (room f) refl
+  where
+    go : (t : Bool) → room f ≡ t → t ≡ true
+    go true e = refl
+    go false e = let z : _≡_ {A = ℕ} 12 0 = sym (no-room f e) ∙ c in absurd (omega arith)
 
--- acceptable data is its result byte between a 2 and four zeros
-outcome-data : (d : List ℕ) → Bytes d → content 0x43 d ≡ 0 → data43 (resultOf (byte d 1)) ≡ d
-unfolding table rowIn
-outcome-data d y h =
+pub byte-written : (f : Outcome) → int8uAt (dataOf f) 1 ≡ resultByte f
+unfolding dataOf readRows
+byte-written f =
+    let e = read-joined [] (rowsOf f) (omega arith, (omega (arith, byte-small f), (omega arith, (omega arith, (omega arith, (omega arith, tt)))))) in
+    λ k. nat (e k) 1
+
+read-written : (f : Outcome) → Unit {0} → content 0x43 (dataOf f) ≡ 0 → fieldsOf (dataOf f) ≡ f
+unfolding fieldsOf
+read-written f h c = ap resultOf (byte-written f) ∙ result-kept f (has-room f c)
+
+written-read : (d : List ℕ) → Bytes d → content 0x43 d ≡ 0 → dataOf (fieldsOf d) ≡ d
+unfolding fieldsOf dataOf readRows widths table rowIn
+written-read d y h =
     let n : length d ≡ 6 = one-length 0x43 6 in43 d refl h in
     let zero : ℕ → Bool = λ i. eqb (byte d (2 + i)) 0 in
     let p = and-eq-true-iff (eqb (byte d 0) 2 && not (eqb (antenna (byte d 1)) 2)) (all 4 zero) .0 (accepted-parts 0x43 (only 0x43 6 in43) d refl h .1) in
-    let two = eqb-true (byte d 0) 2 (and-eq-true-iff (eqb (byte d 0) 2) (not (eqb (antenna (byte d 1)) 2)) .0 (p .0) .0) in
-    let nul : (i : ℕ) → i < 4 → 0 ≡ byte d (2 + i) = λ i l. sym (eqb-true (byte d (2 + i)) 0 (all-at 4 zero (p .1) i l)) in
-    (λ k. sym two k ∷ result-data (byte d 1) (y 1 (omega arith)) k ∷ nul 0 (omega arith) k ∷ nul 1 (omega arith) k ∷ nul 2 (omega arith) k ∷ nul 3 (omega arith) k ∷ [])
-    ∙ spelled 6 0 d n
+    let two : 2 ≡ int8uAt d 0 = sym (number-one d 0 ∙ eqb-true (byte d 0) 2 (and-eq-true-iff (eqb (byte d 0) 2) (not (eqb (antenna (byte d 1)) 2)) .0 (p .0) .0)) in
+    let small : int8uAt d 1 < 256 = rw (number-one d 1) (y 1 (omega arith)) in
+    let nul : (i : ℕ) → i < 4 → 0 ≡ int8uAt d (2 + i) = λ i l. sym (number-one d (2 + i) ∙ eqb-true (byte d (2 + i)) 0 (all-at 4 zero (p .1) i l)) in
+    (λ k. joined (INT8U (two k) ∷ INT8U (result-data (int8uAt d 1) small k) ∷ INT8U (nul 0 (omega arith) k) ∷ INT8U (nul 1 (omega arith) k)
+    ∷ INT8U (nul 2 (omega arith) k) ∷ INT8U (nul 3 (omega arith) k) ∷ []))
+    ∙ joined-read (rowsOf (fieldsOf d)) 0 d (sym n) y
 
-pub written-read-43 : (d b : List ℕ) → Bytes d → read43 d .refusal ≡ 0 → length d ≤ length b
-    → (write43 (read43 d .fields) b ≡ accepted (length d)) × (fill43 (read43 d .fields) b ≡ placed b 0 d)
-unfolding read43 write43 fill43
-written-read-43 d b y h k =
-    rw (eq-eqb _ _ h, result-room (byte d 1)) (written-anew 0x43 d b (data43 (resultOf (byte d 1))) (outcome-data d y h) h k)
+abbrev held : Decoded → Option Outcome
+held (Decoded.Fields f) = some f
+held (Decoded.Refused v) = none
+
+-- every value of the fields' types fits
+pub encode-decode : EncodeDecode 0x43 dataOf decodedOf Decoded.Fields (λ f. Unit {0})
+unfolding decodedOf
+encode-decode = laws.encode-fields 0x43 fieldsOf dataOf Decoded.Fields Decoded.Refused (λ f. Unit {0}) (λ f. f) read-written
+
+pub decode-encode : DecodeEncode 0x43 dataOf decodedOf Decoded.Fields Bytes
+unfolding decodedOf
+decode-encode = laws.decode-fields 0x43 fieldsOf dataOf Decoded.Fields Decoded.Refused held (λ g. refl) (λ n. refl) written-read

@@ -1,18 +1,16 @@
--- Document 01, 43h: fields from data (a refusal and no fields, or 0 and the fields), and data from fields (refused, or written to
--- the buffer's start).
-use mathlib.Core.Bool.{Bool, false, cond, _&&_}
+-- 43h: a result byte between a 2 and four zeros (document 01).
+use mathlib.Core.Bool.{Bool, cond, _&&_}
 use mathlib.Core.List.{List, [], _∷_}
 use Prim.Native.Nat.{ℕ, _+_, _*_, _/_, _%_}
 use lib.Dec.{eqb, leb}
-use Rattle.ranges.specs.Ranges.{byte, antenna}
+use Rattle.ranges.specs.Ranges.{antenna}
 use Rattle.kinds.specs.Kinds.{content}
-use Rattle.octets.specs.declared.Written.{Written}
-use Rattle.octets.specs.Delivery.{refused}
-use Rattle.encoding.specs.Encoding.{encodedOf, encodedInto}
+use Rattle.numbers.specs.Types.{int8uAt}
+use Rattle.rows.specs.Layout.{Row, INT8U, joined}
 use Rattle.fields_43.specs.declared.Outcome.{Outcome}
-use Rattle.fields_43.specs.declared.OutcomeRead.{OutcomeRead}
+use Rattle.fields_43.specs.declared.Decoded.{Decoded}
 
--- 43h: the byte 2, a result byte, four zeros; of the result byte bits 7–6 (antenna), 5 (GLONASS), 4 (GPS) and 3–0
+-- of a result byte: bits 7–6 (antenna), 5 (GLONASS), 4 (GPS) and 3–0
 abbrev pub resultOf : ℕ → Outcome
 resultOf b = record {
   antenna = antenna b;
@@ -21,27 +19,36 @@ resultOf b = record {
   low = b % 16;
 }
 
-abbrev pub blank43 : Outcome
-blank43 = record { antenna = 0; glonass = false; gps = false; low = 0 }
-
-unfoldable pub read43 : List ℕ → OutcomeRead
-read43 d = record { refusal = content 0x43 d; fields = cond (eqb (content 0x43 d) 0) (resultOf (byte d 1)) blank43 }
-
 abbrev pub bitOf : Bool → ℕ
 bitOf b = cond b 1 0
 
+-- the result byte has room for the parts
+abbrev pub room : Outcome → Bool
+room f = leb (f .antenna) 3 && leb (f .low) 15
+
+-- the result byte of its parts; that of antenna 2, which is out of range, where there is no room for them
 abbrev pub resultByte : Outcome → ℕ
-resultByte f = f .antenna * 64 + bitOf (f .glonass) * 32 + bitOf (f .gps) * 16 + f .low
+resultByte f = cond (room f) (f .antenna * 64 + bitOf (f .glonass) * 32 + bitOf (f .gps) * 16 + f .low) 0x80
 
-abbrev pub data43 : Outcome → List ℕ
-data43 f = 2 ∷ resultByte f ∷ 0 ∷ 0 ∷ 0 ∷ 0 ∷ []
+-- the fields, by their offsets
+unfoldable pub fieldsOf : List ℕ → Outcome
+fieldsOf d = resultOf (int8uAt d 1)
 
--- parts that the result byte has no room for are refused by 12, as an antenna of 2 is by the data's range
-abbrev pub room43 : Outcome → Bool
-room43 f = leb (f .antenna) 3 && leb (f .low) 15
+-- the rows, in their order
+abbrev pub rowsOf : Outcome → List Row
+rowsOf f =
+    INT8U 2
+    ∷ INT8U (resultByte f)
+    ∷ INT8U 0
+    ∷ INT8U 0
+    ∷ INT8U 0
+    ∷ INT8U 0
+    ∷ []
 
-unfoldable pub write43 : Outcome → List ℕ → Written
-write43 f b = cond (room43 f) (encodedOf 0x43 (data43 f) b) (refused 12)
+-- the data
+unfoldable pub dataOf : Outcome → List ℕ
+dataOf f = joined (rowsOf f)
 
-unfoldable pub fill43 : Outcome → List ℕ → List ℕ
-fill43 f b = cond (room43 f) (encodedInto 0x43 (data43 f) b) b
+-- what a decoding answers, by the data's refusal
+unfoldable pub decodedOf : List ℕ → Decoded
+decodedOf d = cond (eqb (content 0x43 d) 0) (Decoded.Fields (fieldsOf d)) (Decoded.Refused (content 0x43 d))

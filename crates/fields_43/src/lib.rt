@@ -1,9 +1,11 @@
-// 43h as fields and as data. Decoding gives a refusal with blank fields, or 0 with the fields. Encoding puts the data into a lent
-// buffer, or refuses and leaves the buffer as it is.
-ghost use mathlib.Core.Path.{_≡_};
-ghost use Prim.Native.Nat.{_≤_};
-ghost use Rattle.fields_43.specs.Fields.{resultOf, bitOf, resultByte, read43, write43, fill43};
+// 43h, a result byte, as fields and as data.
+// Decoding gives the fields of acceptable data, or the refusal. Encoding lays the fields out and delivers them, so that fields out of
+// range are refused as their data would be.
 use octets::Written;
+ghost use mathlib.Core.Path.{_≡_};
+ghost use Rattle.encoding.specs.Encoding.{encodedOf, encodedInto};
+ghost use Rattle.rows.specs.Layout.{words};
+ghost use Rattle.fields_43.specs.Fields.{resultOf, bitOf, resultByte, fieldsOf, rowsOf, dataOf, decodedOf};
 
 // 43h: the result byte's parts.
 pub struct Outcome {
@@ -13,9 +15,9 @@ pub struct Outcome {
     pub low: u8,
 }
 
-pub struct OutcomeRead {
-    pub refusal: u8,
-    pub fields: Outcome,
+pub enum Decoded {
+    Fields(Outcome),
+    Refused(u8),
 }
 
 // The parts of a result byte.
@@ -40,51 +42,47 @@ fn bit(on: bool) -> u8
     0
 }
 
-// The result byte of its parts.
+// The result byte of its parts. Where it has no room for them they are out of range, and so is an antenna of 2.
 fn result_byte(f: Outcome) -> u8
-    requires { ⌜ (f .antenna ≤ 3) × (f .low ≤ 15) ⌝ }
     ensures { λ r. ⌜ r ≡ resultByte f ⌝ }
 {
     let glonass = bit(f.glonass);
     let gps = bit(f.gps);
-    (f.antenna << 6) | (glonass << 5) | (gps << 4) | f.low
+    if (f.antenna <= 3) & (f.low <= 15) {
+        return (f.antenna << 6) | (glonass << 5) | (gps << 4) | f.low;
+    }
+    2 << 6
+}
+
+fn read_43(body: &[u8]) -> Outcome
+    ensures { λ r. ⌜ r ≡ fieldsOf (now (body .entry)) ⌝ }
+{
+    result_of(numbers::int8u_at(body, 1))
 }
 
 // The fields of 43h data.
-pub fn decode_43(body: &[u8]) -> OutcomeRead
-    ensures { λ r. ⌜ r ≡ read43 (now (body .entry)) ⌝ }
+pub fn decode_43(body: &[u8]) -> Decoded
+    ensures { λ r. ⌜ r ≡ decodedOf (now (body .entry)) ⌝ }
 {
     let refusal = kinds::content(0x43, body);
     if refusal != 0 {
-        let blank = Outcome {
-            antenna: 0,
-            glonass: false,
-            gps: false,
-            low: 0,
-        };
-        return OutcomeRead {
-            refusal: refusal,
-            fields: blank,
-        };
+        return Decoded::Refused(refusal);
     }
-    let fields = result_of(octets::byte_at(body, 1));
-    OutcomeRead {
-        refusal: 0,
-        fields: fields,
-    }
+    Decoded::Fields(read_43(body))
 }
 
-// The data of 43h from its fields. Parts that the result byte has no room for are out of range; an antenna of 2 is found out of
-// range in the data.
-pub fn encode_43(f: Outcome, buf: &mut [u8]) -> Written
-    ensures { λ r. ⌜ (r ≡ write43 f (now (buf .entry))) × (now (buf .exit) ≡ fill43 f (now (buf .entry))) ⌝ }
+const WIDTHS_43: [usize; 6] = [1, 1, 1, 1, 1, 1];
+
+fn words_43(f: Outcome) -> [u64; 6]
+    ensures { λ r. ⌜ r ≡ words (rowsOf f) ⌝ }
 {
-    if (f.antenna <= 3) & (f.low <= 15) {
-        let all = [2, result_byte(f), 0, 0, 0, 0];
-        return encoding::deliver(0x43, &all, buf);
-    }
-    Written {
-        refusal: 12,
-        length: 0,
-    }
+    [2, result_byte(f) as u64, 0, 0, 0, 0]
+}
+
+// The data of 43h from its fields.
+pub fn encode_43(f: Outcome, buf: &mut [u8]) -> Written
+    ensures { λ r. ⌜ (r ≡ encodedOf 0x43 (dataOf f) (now (buf .entry)))
+        × (now (buf .exit) ≡ encodedInto 0x43 (dataOf f) (now (buf .entry))) ⌝ }
+{
+    rows::encode(0x43, &words_43(f), &WIDTHS_43, buf)
 }

@@ -1,20 +1,23 @@
--- Reading and writing are inverse, by the laws of rows, of which the layout is a list. So a decode call gives back the fields that
--- an encode call accepted.
-use mathlib.Core.Path.{_≡_, sym}
+-- The round trips of 46h: the layout is a list of rows, and reading and writing rows are inverse.
+use mathlib.Core.Path.{_≡_, refl, sym}
 use mathlib.Core.List.{List, []}
+use mathlib.Core.Option.{Option, none, some}
 use Prim.Native.Nat.{ℕ}
 use lib.ListN.{length}
-use Rattle.kinds.specs.Kinds.{content}
-use Rattle.encoding.proofs.AcceptedLaws.{Bytes}
+use Rattle.kinds.specs.Kinds.{table, rowIn, content}
+use Rattle.encoding.specs.RoundTrip.{EncodeDecode, DecodeEncode}
+use Rattle.encoding.proofs.AcceptedLaws.{Bytes, one-length}
+use Rattle.encoding.proofs.RoundTripLaws as laws
 use Rattle.rows.specs.Layout.{AllHeld}
-use Rattle.fields_46.specs.Time.{timeOf, timeRows, bytes46, decoded46}
-use Rattle.fields_46.specs.declared.Time.{Time}
 use Rattle.rows.proofs.RowLaws.{nat, int, readRows, widths, read-joined, joined-read}
+use Rattle.fields_46.specs.Fields.{fieldsOf, rowsOf, dataOf, decodedOf}
+use Rattle.fields_46.specs.declared.Time.{Time}
+use Rattle.fields_46.specs.declared.Decoded.{Decoded}
 
-pub read-written-46 : (f : Time) → AllHeld (timeRows f) → timeOf (bytes46 f) ≡ f
-unfolding timeOf bytes46 readRows
-read-written-46 f h =
-    let e = read-joined [] (timeRows f) h in
+read-written : (f : Time) → AllHeld (rowsOf f) → content 0x46 (dataOf f) ≡ 0 → fieldsOf (dataOf f) ≡ f
+unfolding fieldsOf dataOf readRows
+read-written f h c =
+    let e = read-joined [] (rowsOf f) h in
     λ k. record {
       second = nat (e k) 0;
       day = nat (e k) 1;
@@ -24,10 +27,18 @@ read-written-46 f h =
       minutes = int (e k) 5;
     }
 
-pub decoded-written-46 : (f : Time) → AllHeld (timeRows f) → content 0x46 (bytes46 f) ≡ 0 → decoded46 (bytes46 f) ≡ record { refusal = 0; fields = f }
-unfolding decoded46
-decoded-written-46 f h c = rw c (λ k. record { refusal = 0; fields = read-written-46 f h k })
+written-read : (d : List ℕ) → Bytes d → content 0x46 d ≡ 0 → dataOf (fieldsOf d) ≡ d
+unfolding fieldsOf dataOf readRows widths table rowIn
+written-read d y h = joined-read (rowsOf (fieldsOf d)) 0 d (sym (one-length 0x46 10 _ d refl h)) y
 
-pub written-read-46 : (d : List ℕ) → length d ≡ 10 → Bytes d → bytes46 (timeOf d) ≡ d
-unfolding timeOf bytes46 readRows widths
-written-read-46 d e h = joined-read (timeRows (timeOf d)) 0 d (sym e) h
+abbrev held : Decoded → Option Time
+held (Decoded.Fields f) = some f
+held (Decoded.Refused v) = none
+
+pub encode-decode : EncodeDecode 0x46 dataOf decodedOf Decoded.Fields (λ f. AllHeld (rowsOf f))
+unfolding decodedOf
+encode-decode = laws.encode-fields 0x46 fieldsOf dataOf Decoded.Fields Decoded.Refused (λ f. AllHeld (rowsOf f)) (λ f. f) read-written
+
+pub decode-encode : DecodeEncode 0x46 dataOf decodedOf Decoded.Fields Bytes
+unfolding decodedOf
+decode-encode = laws.decode-fields 0x46 fieldsOf dataOf Decoded.Fields Decoded.Refused held (λ g. refl) (λ n. refl) written-read

@@ -1,1 +1,1 @@
-pub mod Time
+pub mod Fields

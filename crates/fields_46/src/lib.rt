@@ -1,11 +1,11 @@
 // 46h, time, date and zone, as fields and as data.
-// Decoding gives the fields of acceptable data; where the data is refused the fields are those of no data, all 0. Encoding lays the
-// fields out and delivers them, so that fields out of range are refused as their data would be.
+// Decoding gives the fields of acceptable data, or the refusal. Encoding lays the fields out and delivers them, so that fields out of
+// range are refused as their data would be.
 use octets::Written;
 ghost use mathlib.Core.Path.{_≡_};
 ghost use Rattle.encoding.specs.Encoding.{encodedOf, encodedInto};
 ghost use Rattle.rows.specs.Layout.{words};
-ghost use Rattle.fields_46.specs.Time.{timeOf, timeRows, bytes46, decoded46};
+ghost use Rattle.fields_46.specs.Fields.{fieldsOf, rowsOf, dataOf, decodedOf};
 
 // 46h: time, date and zone (000, Table 37).
 pub struct Time {
@@ -17,13 +17,13 @@ pub struct Time {
     pub minutes: i8,
 }
 
-pub struct Decoded46 {
-    pub refusal: u8,
-    pub fields: Time,
+pub enum Decoded {
+    Fields(Time),
+    Refused(u8),
 }
 
 fn read_46(body: &[u8]) -> Time
-    ensures { λ r. ⌜ r ≡ timeOf (now (body .entry)) ⌝ }
+    ensures { λ r. ⌜ r ≡ fieldsOf (now (body .entry)) ⌝ }
 {
     Time {
         second: numbers::u32_at(body, 0),
@@ -35,26 +35,21 @@ fn read_46(body: &[u8]) -> Time
     }
 }
 
-pub fn decode_46(body: &[u8]) -> Decoded46
-    ensures { λ r. ⌜ r ≡ decoded46 (now (body .entry)) ⌝ }
+// The fields of 46h data.
+pub fn decode_46(body: &[u8]) -> Decoded
+    ensures { λ r. ⌜ r ≡ decodedOf (now (body .entry)) ⌝ }
 {
     let refusal = kinds::content(0x46, body);
-    if refusal == 0 {
-        return Decoded46 {
-            refusal,
-            fields: read_46(body),
-        };
+    if refusal != 0 {
+        return Decoded::Refused(refusal);
     }
-    Decoded46 {
-        refusal,
-        fields: read_46(&body[..0]),
-    }
+    Decoded::Fields(read_46(body))
 }
 
 const WIDTHS_46: [usize; 6] = [4, 1, 1, 2, 1, 1];
 
 fn words_46(f: Time) -> [u64; 6]
-    ensures { λ r. ⌜ r ≡ words (timeRows f) ⌝ }
+    ensures { λ r. ⌜ r ≡ words (rowsOf f) ⌝ }
 {
     [
         f.second as u64,
@@ -66,9 +61,10 @@ fn words_46(f: Time) -> [u64; 6]
     ]
 }
 
+// The data of 46h from its fields.
 pub fn encode_46(f: Time, buf: &mut [u8]) -> Written
-    ensures { λ r. ⌜ (r ≡ encodedOf 0x46 (bytes46 f) (now (buf .entry)))
-        × (now (buf .exit) ≡ encodedInto 0x46 (bytes46 f) (now (buf .entry))) ⌝ }
+    ensures { λ r. ⌜ (r ≡ encodedOf 0x46 (dataOf f) (now (buf .entry)))
+        × (now (buf .exit) ≡ encodedInto 0x46 (dataOf f) (now (buf .entry))) ⌝ }
 {
     rows::encode(0x46, &words_46(f), &WIDTHS_46, buf)
 }

@@ -1,3 +1,1 @@
-pub mod Ephemeris
-pub mod Glonass
-pub mod Gps
+pub mod Fields

@@ -1,16 +1,11 @@
-// 49h, the ephemeris of a satellite, as fields: those of acceptable data, or the refusal.
-// 49h data of a GLONASS satellite: its fields and its layout. Encoding lays the fields out and delivers them, so that fields out of
-// range are refused as their data would be. FP fields are kept as their bits.
-// 49h data of a GPS satellite: its fields and its layout. Encoding lays the fields out and delivers them, so that fields out of
+// 49h, the ephemeris of a satellite, as fields and as data.
+// Decoding gives the fields of acceptable data, or the refusal. Encoding lays the fields out and delivers them, so that fields out of
 // range are refused as their data would be. FP fields are kept as their bits.
 use octets::Written;
 ghost use mathlib.Core.Path.{_≡_};
 ghost use Rattle.encoding.specs.Encoding.{encodedOf, encodedInto};
 ghost use Rattle.rows.specs.Layout.{words};
-ghost use Rattle.fields_49.specs.Gps.{gpsRows, bytesGps};
-ghost use Rattle.fields_49.specs.Glonass.{glonassRows, bytesGlonass, glonassOf};
-ghost use Rattle.fields_49.specs.Gps.{gpsOf};
-ghost use Rattle.fields_49.specs.Ephemeris.{ephemerisOf};
+ghost use Rattle.fields_49.specs.Fields.{fieldsOfGps, rowsOfGps, dataOfGps, fieldsOfGlonass, rowsOfGlonass, dataOfGlonass, decodedOf};
 
 // 49h: ephemeris of a GPS satellite, first byte 1 (000, Table 39).
 pub struct Gps {
@@ -40,7 +35,99 @@ pub struct Gps {
     pub iode: u16,
 }
 
-const WIDTHS_GPS: [usize; 25] = [
+// 49h: ephemeris of a GLONASS satellite, first byte 2 (000, Table 39).
+pub struct Glonass {
+    pub number: u8, // n^A, the satellite; 0: unknown
+    pub carrier: i8, // H_n^A
+    pub x: u64, // coordinates
+    pub y: u64,
+    pub z: u64,
+    pub vx: u64, // speeds
+    pub vy: u64,
+    pub vz: u64,
+    pub ax: u64, // accelerations
+    pub ay: u64,
+    pub az: u64,
+    pub tb: u64, // the time in the day
+    pub gamma: u32,
+    pub tau: u32,
+    pub age: u16, // E_n
+}
+
+pub enum Decoded {
+    Gps(Gps),
+    Glonass(Glonass),
+    Refused(u8),
+}
+
+fn read_49_gps(body: &[u8]) -> Gps
+    ensures { λ r. ⌜ r ≡ fieldsOfGps (now (body .entry)) ⌝ }
+{
+    Gps {
+        prn: numbers::int8u_at(body, 1),
+        crs: numbers::u32_at(body, 2),
+        delta_n: numbers::u32_at(body, 6),
+        m0: numbers::u64_at(body, 10),
+        cuc: numbers::u32_at(body, 18),
+        e: numbers::u64_at(body, 22),
+        cus: numbers::u32_at(body, 30),
+        sqrt_a: numbers::u64_at(body, 34),
+        toe: numbers::u64_at(body, 42),
+        cic: numbers::u32_at(body, 50),
+        omega0: numbers::u64_at(body, 54),
+        cis: numbers::u32_at(body, 62),
+        i0: numbers::u64_at(body, 66),
+        crc: numbers::u32_at(body, 74),
+        omega: numbers::u64_at(body, 78),
+        omega_dot: numbers::u64_at(body, 86),
+        idot: numbers::u64_at(body, 94),
+        tgd: numbers::u32_at(body, 102),
+        toc: numbers::u64_at(body, 106),
+        af2: numbers::u32_at(body, 114),
+        af1: numbers::u32_at(body, 118),
+        af0: numbers::u32_at(body, 122),
+        ura: numbers::u16_at(body, 126),
+        iode: numbers::u16_at(body, 128),
+    }
+}
+
+fn read_49_glonass(body: &[u8]) -> Glonass
+    ensures { λ r. ⌜ r ≡ fieldsOfGlonass (now (body .entry)) ⌝ }
+{
+    Glonass {
+        number: numbers::int8u_at(body, 1),
+        carrier: numbers::int8s_at(body, 2),
+        x: numbers::u64_at(body, 3),
+        y: numbers::u64_at(body, 11),
+        z: numbers::u64_at(body, 19),
+        vx: numbers::u64_at(body, 27),
+        vy: numbers::u64_at(body, 35),
+        vz: numbers::u64_at(body, 43),
+        ax: numbers::u64_at(body, 51),
+        ay: numbers::u64_at(body, 59),
+        az: numbers::u64_at(body, 67),
+        tb: numbers::u64_at(body, 75),
+        gamma: numbers::u32_at(body, 83),
+        tau: numbers::u32_at(body, 87),
+        age: numbers::u16_at(body, 91),
+    }
+}
+
+// The fields of 49h data.
+pub fn decode_49(body: &[u8]) -> Decoded
+    ensures { λ r. ⌜ r ≡ decodedOf (now (body .entry)) ⌝ }
+{
+    let refusal = kinds::content(0x49, body);
+    if refusal != 0 {
+        return Decoded::Refused(refusal);
+    }
+    if numbers::int8u_at(body, 0) == 1 {
+        return Decoded::Gps(read_49_gps(body));
+    }
+    Decoded::Glonass(read_49_glonass(body))
+}
+
+const WIDTHS_49_GPS: [usize; 25] = [
     1,
     1,
     4,
@@ -68,8 +155,8 @@ const WIDTHS_GPS: [usize; 25] = [
     2,
 ];
 
-fn words_gps(f: Gps) -> [u64; 25]
-    ensures { λ r. ⌜ r ≡ words (gpsRows f) ⌝ }
+fn words_49_gps(f: Gps) -> [u64; 25]
+    ensures { λ r. ⌜ r ≡ words (rowsOfGps f) ⌝ }
 {
     [
         1,
@@ -100,36 +187,18 @@ fn words_gps(f: Gps) -> [u64; 25]
     ]
 }
 
-pub fn encode_gps(f: Gps, buf: &mut [u8]) -> Written
-    ensures { λ r. ⌜ (r ≡ encodedOf 0x49 (bytesGps f) (now (buf .entry)))
-        × (now (buf .exit) ≡ encodedInto 0x49 (bytesGps f) (now (buf .entry))) ⌝ }
+// The data of 49h from the fields of a GPS satellite.
+pub fn encode_49_gps(f: Gps, buf: &mut [u8]) -> Written
+    ensures { λ r. ⌜ (r ≡ encodedOf 0x49 (dataOfGps f) (now (buf .entry)))
+        × (now (buf .exit) ≡ encodedInto 0x49 (dataOfGps f) (now (buf .entry))) ⌝ }
 {
-    rows::encode(0x49, &words_gps(f), &WIDTHS_GPS, buf)
+    rows::encode(0x49, &words_49_gps(f), &WIDTHS_49_GPS, buf)
 }
 
-// 49h: ephemeris of a GLONASS satellite, first byte 2 (000, Table 39).
-pub struct Glonass {
-    pub number: u8, // n^A, the satellite; 0: unknown
-    pub carrier: i8, // H_n^A
-    pub x: u64, // coordinates
-    pub y: u64,
-    pub z: u64,
-    pub vx: u64, // speeds
-    pub vy: u64,
-    pub vz: u64,
-    pub ax: u64, // accelerations
-    pub ay: u64,
-    pub az: u64,
-    pub tb: u64, // the time in the day
-    pub gamma: u32,
-    pub tau: u32,
-    pub age: u16, // E_n
-}
+const WIDTHS_49_GLONASS: [usize; 16] = [1, 1, 1, 8, 8, 8, 8, 8, 8, 8, 8, 8, 8, 4, 4, 2];
 
-const WIDTHS_GLONASS: [usize; 16] = [1, 1, 1, 8, 8, 8, 8, 8, 8, 8, 8, 8, 8, 4, 4, 2];
-
-fn words_glonass(f: Glonass) -> [u64; 16]
-    ensures { λ r. ⌜ r ≡ words (glonassRows f) ⌝ }
+fn words_49_glonass(f: Glonass) -> [u64; 16]
+    ensures { λ r. ⌜ r ≡ words (rowsOfGlonass f) ⌝ }
 {
     [
         2,
@@ -151,81 +220,10 @@ fn words_glonass(f: Glonass) -> [u64; 16]
     ]
 }
 
-pub fn encode_glonass(f: Glonass, buf: &mut [u8]) -> Written
-    ensures { λ r. ⌜ (r ≡ encodedOf 0x49 (bytesGlonass f) (now (buf .entry)))
-        × (now (buf .exit) ≡ encodedInto 0x49 (bytesGlonass f) (now (buf .entry))) ⌝ }
+// The data of 49h from the fields of a GLONASS satellite.
+pub fn encode_49_glonass(f: Glonass, buf: &mut [u8]) -> Written
+    ensures { λ r. ⌜ (r ≡ encodedOf 0x49 (dataOfGlonass f) (now (buf .entry)))
+        × (now (buf .exit) ≡ encodedInto 0x49 (dataOfGlonass f) (now (buf .entry))) ⌝ }
 {
-    rows::encode(0x49, &words_glonass(f), &WIDTHS_GLONASS, buf)
-}
-
-fn read_gps(body: &[u8]) -> Gps
-    ensures { λ r. ⌜ r ≡ gpsOf (now (body .entry)) ⌝ }
-{
-    Gps {
-        prn: numbers::int8u_at(body, 1),
-        crs: numbers::u32_at(body, 2),
-        delta_n: numbers::u32_at(body, 6),
-        m0: numbers::u64_at(body, 10),
-        cuc: numbers::u32_at(body, 18),
-        e: numbers::u64_at(body, 22),
-        cus: numbers::u32_at(body, 30),
-        sqrt_a: numbers::u64_at(body, 34),
-        toe: numbers::u64_at(body, 42),
-        cic: numbers::u32_at(body, 50),
-        omega0: numbers::u64_at(body, 54),
-        cis: numbers::u32_at(body, 62),
-        i0: numbers::u64_at(body, 66),
-        crc: numbers::u32_at(body, 74),
-        omega: numbers::u64_at(body, 78),
-        omega_dot: numbers::u64_at(body, 86),
-        idot: numbers::u64_at(body, 94),
-        tgd: numbers::u32_at(body, 102),
-        toc: numbers::u64_at(body, 106),
-        af2: numbers::u32_at(body, 114),
-        af1: numbers::u32_at(body, 118),
-        af0: numbers::u32_at(body, 122),
-        ura: numbers::u16_at(body, 126),
-        iode: numbers::u16_at(body, 128),
-    }
-}
-
-fn read_glonass(body: &[u8]) -> Glonass
-    ensures { λ r. ⌜ r ≡ glonassOf (now (body .entry)) ⌝ }
-{
-    Glonass {
-        number: numbers::int8u_at(body, 1),
-        carrier: numbers::int8s_at(body, 2),
-        x: numbers::u64_at(body, 3),
-        y: numbers::u64_at(body, 11),
-        z: numbers::u64_at(body, 19),
-        vx: numbers::u64_at(body, 27),
-        vy: numbers::u64_at(body, 35),
-        vz: numbers::u64_at(body, 43),
-        ax: numbers::u64_at(body, 51),
-        ay: numbers::u64_at(body, 59),
-        az: numbers::u64_at(body, 67),
-        tb: numbers::u64_at(body, 75),
-        gamma: numbers::u32_at(body, 83),
-        tau: numbers::u32_at(body, 87),
-        age: numbers::u16_at(body, 91),
-    }
-}
-
-pub enum Ephemeris {
-    Gps(Gps),
-    Glonass(Glonass),
-    Refused(u8),
-}
-
-pub fn decode_49(body: &[u8]) -> Ephemeris
-    ensures { λ r. ⌜ r ≡ ephemerisOf (now (body .entry)) ⌝ }
-{
-    let refusal = kinds::content(0x49, body);
-    if refusal != 0 {
-        return Ephemeris::Refused(refusal);
-    }
-    if numbers::int8u_at(body, 0) == 1 {
-        return Ephemeris::Gps(read_gps(body));
-    }
-    Ephemeris::Glonass(read_glonass(body))
+    rows::encode(0x49, &words_49_glonass(f), &WIDTHS_49_GLONASS, buf)
 }

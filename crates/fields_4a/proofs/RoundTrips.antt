@@ -1,20 +1,23 @@
--- Reading and writing are inverse, by the laws of rows, of which the layout is a list. So a decode call gives back the fields that
--- an encode call accepted.
-use mathlib.Core.Path.{_≡_, sym}
+-- The round trips of 4Ah: the layout is a list of rows, and reading and writing rows are inverse.
+use mathlib.Core.Path.{_≡_, refl, sym}
 use mathlib.Core.List.{List, []}
+use mathlib.Core.Option.{Option, none, some}
 use Prim.Native.Nat.{ℕ}
 use lib.ListN.{length}
-use Rattle.kinds.specs.Kinds.{content}
-use Rattle.encoding.proofs.AcceptedLaws.{Bytes}
+use Rattle.kinds.specs.Kinds.{table, rowIn, content}
+use Rattle.encoding.specs.RoundTrip.{EncodeDecode, DecodeEncode}
+use Rattle.encoding.proofs.AcceptedLaws.{Bytes, one-length}
+use Rattle.encoding.proofs.RoundTripLaws as laws
 use Rattle.rows.specs.Layout.{AllHeld}
-use Rattle.fields_4a.specs.Ionosphere.{ionosphereOf, ionosphereRows, bytes4A, decoded4A}
-use Rattle.fields_4a.specs.declared.Ionosphere.{Ionosphere}
 use Rattle.rows.proofs.RowLaws.{nat, readRows, widths, read-joined, joined-read}
+use Rattle.fields_4a.specs.Fields.{fieldsOf, rowsOf, dataOf, decodedOf}
+use Rattle.fields_4a.specs.declared.Ionosphere.{Ionosphere}
+use Rattle.fields_4a.specs.declared.Decoded.{Decoded}
 
-pub read-written-4a : (f : Ionosphere) → AllHeld (ionosphereRows f) → ionosphereOf (bytes4A f) ≡ f
-unfolding ionosphereOf bytes4A readRows
-read-written-4a f h =
-    let e = read-joined [] (ionosphereRows f) h in
+read-written : (f : Ionosphere) → AllHeld (rowsOf f) → content 0x4A (dataOf f) ≡ 0 → fieldsOf (dataOf f) ≡ f
+unfolding fieldsOf dataOf readRows
+read-written f h c =
+    let e = read-joined [] (rowsOf f) h in
     λ k. record {
       alpha0 = nat (e k) 0;
       alpha1 = nat (e k) 1;
@@ -27,10 +30,18 @@ read-written-4a f h =
       reliable = nat (e k) 8;
     }
 
-pub decoded-written-4a : (f : Ionosphere) → AllHeld (ionosphereRows f) → content 0x4A (bytes4A f) ≡ 0 → decoded4A (bytes4A f) ≡ record { refusal = 0; fields = f }
-unfolding decoded4A
-decoded-written-4a f h c = rw c (λ k. record { refusal = 0; fields = read-written-4a f h k })
+written-read : (d : List ℕ) → Bytes d → content 0x4A d ≡ 0 → dataOf (fieldsOf d) ≡ d
+unfolding fieldsOf dataOf readRows widths table rowIn
+written-read d y h = joined-read (rowsOf (fieldsOf d)) 0 d (sym (one-length 0x4A 33 _ d refl h)) y
 
-pub written-read-4a : (d : List ℕ) → length d ≡ 33 → Bytes d → bytes4A (ionosphereOf d) ≡ d
-unfolding ionosphereOf bytes4A readRows widths
-written-read-4a d e h = joined-read (ionosphereRows (ionosphereOf d)) 0 d (sym e) h
+abbrev held : Decoded → Option Ionosphere
+held (Decoded.Fields f) = some f
+held (Decoded.Refused v) = none
+
+pub encode-decode : EncodeDecode 0x4A dataOf decodedOf Decoded.Fields (λ f. AllHeld (rowsOf f))
+unfolding decodedOf
+encode-decode = laws.encode-fields 0x4A fieldsOf dataOf Decoded.Fields Decoded.Refused (λ f. AllHeld (rowsOf f)) (λ f. f) read-written
+
+pub decode-encode : DecodeEncode 0x4A dataOf decodedOf Decoded.Fields Bytes
+unfolding decodedOf
+decode-encode = laws.decode-fields 0x4A fieldsOf dataOf Decoded.Fields Decoded.Refused held (λ g. refl) (λ n. refl) written-read

@@ -1,1 +1,1 @@
-pub mod Ionosphere
+pub mod Fields

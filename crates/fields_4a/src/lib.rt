@@ -1,11 +1,11 @@
 // 4Ah, ionosphere parameters, as fields and as data.
-// Decoding gives the fields of acceptable data; where the data is refused the fields are those of no data, all 0. Encoding lays the
-// fields out and delivers them, so that fields out of range are refused as their data would be. FP fields are kept as their bits.
+// Decoding gives the fields of acceptable data, or the refusal. Encoding lays the fields out and delivers them, so that fields out of
+// range are refused as their data would be. FP fields are kept as their bits.
 use octets::Written;
 ghost use mathlib.Core.Path.{_≡_};
 ghost use Rattle.encoding.specs.Encoding.{encodedOf, encodedInto};
 ghost use Rattle.rows.specs.Layout.{words};
-ghost use Rattle.fields_4a.specs.Ionosphere.{ionosphereOf, ionosphereRows, bytes4A, decoded4A};
+ghost use Rattle.fields_4a.specs.Fields.{fieldsOf, rowsOf, dataOf, decodedOf};
 
 // 4Ah: ionosphere parameters (000, Table 40).
 pub struct Ionosphere {
@@ -20,13 +20,13 @@ pub struct Ionosphere {
     pub reliable: u8, // 255: the data is reliable
 }
 
-pub struct Decoded4a {
-    pub refusal: u8,
-    pub fields: Ionosphere,
+pub enum Decoded {
+    Fields(Ionosphere),
+    Refused(u8),
 }
 
 fn read_4a(body: &[u8]) -> Ionosphere
-    ensures { λ r. ⌜ r ≡ ionosphereOf (now (body .entry)) ⌝ }
+    ensures { λ r. ⌜ r ≡ fieldsOf (now (body .entry)) ⌝ }
 {
     Ionosphere {
         alpha0: numbers::u32_at(body, 0),
@@ -41,26 +41,21 @@ fn read_4a(body: &[u8]) -> Ionosphere
     }
 }
 
-pub fn decode_4a(body: &[u8]) -> Decoded4a
-    ensures { λ r. ⌜ r ≡ decoded4A (now (body .entry)) ⌝ }
+// The fields of 4Ah data.
+pub fn decode_4a(body: &[u8]) -> Decoded
+    ensures { λ r. ⌜ r ≡ decodedOf (now (body .entry)) ⌝ }
 {
     let refusal = kinds::content(0x4A, body);
-    if refusal == 0 {
-        return Decoded4a {
-            refusal,
-            fields: read_4a(body),
-        };
+    if refusal != 0 {
+        return Decoded::Refused(refusal);
     }
-    Decoded4a {
-        refusal,
-        fields: read_4a(&body[..0]),
-    }
+    Decoded::Fields(read_4a(body))
 }
 
 const WIDTHS_4A: [usize; 9] = [4, 4, 4, 4, 4, 4, 4, 4, 1];
 
 fn words_4a(f: Ionosphere) -> [u64; 9]
-    ensures { λ r. ⌜ r ≡ words (ionosphereRows f) ⌝ }
+    ensures { λ r. ⌜ r ≡ words (rowsOf f) ⌝ }
 {
     [
         f.alpha0 as u64,
@@ -75,9 +70,10 @@ fn words_4a(f: Ionosphere) -> [u64; 9]
     ]
 }
 
+// The data of 4Ah from its fields.
 pub fn encode_4a(f: Ionosphere, buf: &mut [u8]) -> Written
-    ensures { λ r. ⌜ (r ≡ encodedOf 0x4A (bytes4A f) (now (buf .entry)))
-        × (now (buf .exit) ≡ encodedInto 0x4A (bytes4A f) (now (buf .entry))) ⌝ }
+    ensures { λ r. ⌜ (r ≡ encodedOf 0x4A (dataOf f) (now (buf .entry)))
+        × (now (buf .exit) ≡ encodedInto 0x4A (dataOf f) (now (buf .entry))) ⌝ }
 {
     rows::encode(0x4A, &words_4a(f), &WIDTHS_4A, buf)
 }

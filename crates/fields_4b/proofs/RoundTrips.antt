@@ -1,20 +1,23 @@
--- Reading and writing are inverse, by the laws of rows, of which the layout is a list. So a decode call gives back the fields that
--- an encode call accepted.
-use mathlib.Core.Path.{_≡_, sym}
+-- The round trips of 4Bh: the layout is a list of rows, and reading and writing rows are inverse.
+use mathlib.Core.Path.{_≡_, refl, sym}
 use mathlib.Core.List.{List, []}
+use mathlib.Core.Option.{Option, none, some}
 use Prim.Native.Nat.{ℕ}
 use lib.ListN.{length}
-use Rattle.kinds.specs.Kinds.{content}
-use Rattle.encoding.proofs.AcceptedLaws.{Bytes}
+use Rattle.kinds.specs.Kinds.{table, rowIn, content}
+use Rattle.encoding.specs.RoundTrip.{EncodeDecode, DecodeEncode}
+use Rattle.encoding.proofs.AcceptedLaws.{Bytes, one-length}
+use Rattle.encoding.proofs.RoundTripLaws as laws
 use Rattle.rows.specs.Layout.{AllHeld}
-use Rattle.fields_4b.specs.Scales.{scalesOf, scalesRows, bytes4B, decoded4B}
-use Rattle.fields_4b.specs.declared.Scales.{Scales}
 use Rattle.rows.proofs.RowLaws.{nat, int, readRows, widths, read-joined, joined-read}
+use Rattle.fields_4b.specs.Fields.{fieldsOf, rowsOf, dataOf, decodedOf}
+use Rattle.fields_4b.specs.declared.Scales.{Scales}
+use Rattle.fields_4b.specs.declared.Decoded.{Decoded}
 
-pub read-written-4b : (f : Scales) → AllHeld (scalesRows f) → scalesOf (bytes4B f) ≡ f
-unfolding scalesOf bytes4B readRows
-read-written-4b f h =
-    let e = read-joined [] (scalesRows f) h in
+read-written : (f : Scales) → AllHeld (rowsOf f) → content 0x4B (dataOf f) ≡ 0 → fieldsOf (dataOf f) ≡ f
+unfolding fieldsOf dataOf readRows
+read-written f h c =
+    let e = read-joined [] (rowsOf f) h in
     λ k. record {
       a0 = nat (e k) 0;
       a1 = nat (e k) 1;
@@ -30,10 +33,18 @@ read-written-4b f h =
       «glonass_reliable» = nat (e k) 11;
     }
 
-pub decoded-written-4b : (f : Scales) → AllHeld (scalesRows f) → content 0x4B (bytes4B f) ≡ 0 → decoded4B (bytes4B f) ≡ record { refusal = 0; fields = f }
-unfolding decoded4B
-decoded-written-4b f h c = rw c (λ k. record { refusal = 0; fields = read-written-4b f h k })
+written-read : (d : List ℕ) → Bytes d → content 0x4B d ≡ 0 → dataOf (fieldsOf d) ≡ d
+unfolding fieldsOf dataOf readRows widths table rowIn
+written-read d y h = joined-read (rowsOf (fieldsOf d)) 0 d (sym (one-length 0x4B 42 _ d refl h)) y
 
-pub written-read-4b : (d : List ℕ) → length d ≡ 42 → Bytes d → bytes4B (scalesOf d) ≡ d
-unfolding scalesOf bytes4B readRows widths
-written-read-4b d e h = joined-read (scalesRows (scalesOf d)) 0 d (sym e) h
+abbrev held : Decoded → Option Scales
+held (Decoded.Fields f) = some f
+held (Decoded.Refused v) = none
+
+pub encode-decode : EncodeDecode 0x4B dataOf decodedOf Decoded.Fields (λ f. AllHeld (rowsOf f))
+unfolding decodedOf
+encode-decode = laws.encode-fields 0x4B fieldsOf dataOf Decoded.Fields Decoded.Refused (λ f. AllHeld (rowsOf f)) (λ f. f) read-written
+
+pub decode-encode : DecodeEncode 0x4B dataOf decodedOf Decoded.Fields Bytes
+unfolding decodedOf
+decode-encode = laws.decode-fields 0x4B fieldsOf dataOf Decoded.Fields Decoded.Refused held (λ g. refl) (λ n. refl) written-read

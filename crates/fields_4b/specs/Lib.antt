@@ -1,1 +1,1 @@
-pub mod Scales
+pub mod Fields

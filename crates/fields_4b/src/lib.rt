@@ -1,11 +1,11 @@
 // 4Bh, GPS, GLONASS and UTC time scales, as fields and as data.
-// Decoding gives the fields of acceptable data; where the data is refused the fields are those of no data, all 0. Encoding lays the
-// fields out and delivers them, so that fields out of range are refused as their data would be. FP fields are kept as their bits.
+// Decoding gives the fields of acceptable data, or the refusal. Encoding lays the fields out and delivers them, so that fields out of
+// range are refused as their data would be. FP fields are kept as their bits.
 use octets::Written;
 ghost use mathlib.Core.Path.{_≡_};
 ghost use Rattle.encoding.specs.Encoding.{encodedOf, encodedInto};
 ghost use Rattle.rows.specs.Layout.{words};
-ghost use Rattle.fields_4b.specs.Scales.{scalesOf, scalesRows, bytes4B, decoded4B};
+ghost use Rattle.fields_4b.specs.Fields.{fieldsOf, rowsOf, dataOf, decodedOf};
 
 // 4Bh: GPS, GLONASS and UTC time scales (002, Table 48).
 pub struct Scales {
@@ -23,13 +23,13 @@ pub struct Scales {
     pub glonass_reliable: u8, // 255: GLONASS and UTC(SU) are reliable
 }
 
-pub struct Decoded4b {
-    pub refusal: u8,
-    pub fields: Scales,
+pub enum Decoded {
+    Fields(Scales),
+    Refused(u8),
 }
 
 fn read_4b(body: &[u8]) -> Scales
-    ensures { λ r. ⌜ r ≡ scalesOf (now (body .entry)) ⌝ }
+    ensures { λ r. ⌜ r ≡ fieldsOf (now (body .entry)) ⌝ }
 {
     Scales {
         a0: numbers::u64_at(body, 0),
@@ -47,26 +47,21 @@ fn read_4b(body: &[u8]) -> Scales
     }
 }
 
-pub fn decode_4b(body: &[u8]) -> Decoded4b
-    ensures { λ r. ⌜ r ≡ decoded4B (now (body .entry)) ⌝ }
+// The fields of 4Bh data.
+pub fn decode_4b(body: &[u8]) -> Decoded
+    ensures { λ r. ⌜ r ≡ decodedOf (now (body .entry)) ⌝ }
 {
     let refusal = kinds::content(0x4B, body);
-    if refusal == 0 {
-        return Decoded4b {
-            refusal,
-            fields: read_4b(body),
-        };
+    if refusal != 0 {
+        return Decoded::Refused(refusal);
     }
-    Decoded4b {
-        refusal,
-        fields: read_4b(&body[..0]),
-    }
+    Decoded::Fields(read_4b(body))
 }
 
 const WIDTHS_4B: [usize; 12] = [8, 8, 4, 2, 2, 2, 2, 2, 1, 2, 8, 1];
 
 fn words_4b(f: Scales) -> [u64; 12]
-    ensures { λ r. ⌜ r ≡ words (scalesRows f) ⌝ }
+    ensures { λ r. ⌜ r ≡ words (rowsOf f) ⌝ }
 {
     [
         f.a0,
@@ -84,9 +79,10 @@ fn words_4b(f: Scales) -> [u64; 12]
     ]
 }
 
+// The data of 4Bh from its fields.
 pub fn encode_4b(f: Scales, buf: &mut [u8]) -> Written
-    ensures { λ r. ⌜ (r ≡ encodedOf 0x4B (bytes4B f) (now (buf .entry)))
-        × (now (buf .exit) ≡ encodedInto 0x4B (bytes4B f) (now (buf .entry))) ⌝ }
+    ensures { λ r. ⌜ (r ≡ encodedOf 0x4B (dataOf f) (now (buf .entry)))
+        × (now (buf .exit) ≡ encodedInto 0x4B (dataOf f) (now (buf .entry))) ⌝ }
 {
     rows::encode(0x4B, &words_4b(f), &WIDTHS_4B, buf)
 }

@@ -1,20 +1,23 @@
--- Reading and writing are inverse, by the laws of rows, of which the layout is a list. So a decode call gives back the fields that
--- an encode call accepted.
-use mathlib.Core.Path.{_≡_, sym}
+-- The round trips of EBh: the layout is a list of rows, and reading and writing rows are inverse.
+use mathlib.Core.Path.{_≡_, refl, sym}
 use mathlib.Core.List.{List, []}
+use mathlib.Core.Option.{Option, none, some}
 use Prim.Native.Nat.{ℕ}
 use lib.ListN.{length}
-use Rattle.kinds.specs.Kinds.{content}
-use Rattle.encoding.proofs.AcceptedLaws.{Bytes}
+use Rattle.kinds.specs.Kinds.{table, rowIn, content}
+use Rattle.encoding.specs.RoundTrip.{EncodeDecode, DecodeEncode}
+use Rattle.encoding.proofs.AcceptedLaws.{Bytes, one-length}
+use Rattle.encoding.proofs.RoundTripLaws as laws
 use Rattle.rows.specs.Layout.{AllHeld}
-use Rattle.fields_eb.specs.GlonassTime.{glonassTimeOf, glonassTimeRows, bytesEB, decodedEB}
-use Rattle.fields_eb.specs.declared.GlonassTime.{GlonassTime}
 use Rattle.rows.proofs.RowLaws.{nat, readRows, widths, read-joined, joined-read}
+use Rattle.fields_eb.specs.Fields.{fieldsOf, rowsOf, dataOf, decodedOf}
+use Rattle.fields_eb.specs.declared.GlonassTime.{GlonassTime}
+use Rattle.fields_eb.specs.declared.Decoded.{Decoded}
 
-pub read-written-eb : (f : GlonassTime) → AllHeld (glonassTimeRows f) → glonassTimeOf (bytesEB f) ≡ f
-unfolding glonassTimeOf bytesEB readRows
-read-written-eb f h =
-    let e = read-joined [] (glonassTimeRows f) h in
+read-written : (f : GlonassTime) → AllHeld (rowsOf f) → content 0xEB (dataOf f) ≡ 0 → fieldsOf (dataOf f) ≡ f
+unfolding fieldsOf dataOf readRows
+read-written f h c =
+    let e = read-joined [] (rowsOf f) h in
     λ k. record {
       «tau_c» = nat (e k) 0;
       «tau_gps» = nat (e k) 1;
@@ -27,10 +30,18 @@ read-written-eb f h =
       «ut1_reliable» = nat (e k) 8;
     }
 
-pub decoded-written-eb : (f : GlonassTime) → AllHeld (glonassTimeRows f) → content 0xEB (bytesEB f) ≡ 0 → decodedEB (bytesEB f) ≡ record { refusal = 0; fields = f }
-unfolding decodedEB
-decoded-written-eb f h c = rw c (λ k. record { refusal = 0; fields = read-written-eb f h k })
+written-read : (d : List ℕ) → Bytes d → content 0xEB d ≡ 0 → dataOf (fieldsOf d) ≡ d
+unfolding fieldsOf dataOf readRows widths table rowIn
+written-read d y h = joined-read (rowsOf (fieldsOf d)) 0 d (sym (one-length 0xEB 26 _ d refl h)) y
 
-pub written-read-eb : (d : List ℕ) → length d ≡ 26 → Bytes d → bytesEB (glonassTimeOf d) ≡ d
-unfolding glonassTimeOf bytesEB readRows widths
-written-read-eb d e h = joined-read (glonassTimeRows (glonassTimeOf d)) 0 d (sym e) h
+abbrev held : Decoded → Option GlonassTime
+held (Decoded.Fields f) = some f
+held (Decoded.Refused v) = none
+
+pub encode-decode : EncodeDecode 0xEB dataOf decodedOf Decoded.Fields (λ f. AllHeld (rowsOf f))
+unfolding decodedOf
+encode-decode = laws.encode-fields 0xEB fieldsOf dataOf Decoded.Fields Decoded.Refused (λ f. AllHeld (rowsOf f)) (λ f. f) read-written
+
+pub decode-encode : DecodeEncode 0xEB dataOf decodedOf Decoded.Fields Bytes
+unfolding decodedOf
+decode-encode = laws.decode-fields 0xEB fieldsOf dataOf Decoded.Fields Decoded.Refused held (λ g. refl) (λ n. refl) written-read

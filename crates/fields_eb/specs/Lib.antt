@@ -1,1 +1,1 @@
-pub mod GlonassTime
+pub mod Fields

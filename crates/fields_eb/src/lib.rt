@@ -1,11 +1,11 @@
 // EBh, GLONASS time scale parameters, as fields and as data.
-// Decoding gives the fields of acceptable data; where the data is refused the fields are those of no data, all 0. Encoding lays the
-// fields out and delivers them, so that fields out of range are refused as their data would be. FP fields are kept as their bits.
+// Decoding gives the fields of acceptable data, or the refusal. Encoding lays the fields out and delivers them, so that fields out of
+// range are refused as their data would be. FP fields are kept as their bits.
 use octets::Written;
 ghost use mathlib.Core.Path.{_≡_};
 ghost use Rattle.encoding.specs.Encoding.{encodedOf, encodedInto};
 ghost use Rattle.rows.specs.Layout.{words};
-ghost use Rattle.fields_eb.specs.GlonassTime.{glonassTimeOf, glonassTimeRows, bytesEB, decodedEB};
+ghost use Rattle.fields_eb.specs.Fields.{fieldsOf, rowsOf, dataOf, decodedOf};
 
 // EBh: GLONASS time scale parameters (000, Table 57).
 pub struct GlonassTime {
@@ -20,13 +20,13 @@ pub struct GlonassTime {
     pub ut1_reliable: u8, // of kp, b1 and b2: not 0 where reliable
 }
 
-pub struct DecodedEb {
-    pub refusal: u8,
-    pub fields: GlonassTime,
+pub enum Decoded {
+    Fields(GlonassTime),
+    Refused(u8),
 }
 
 fn read_eb(body: &[u8]) -> GlonassTime
-    ensures { λ r. ⌜ r ≡ glonassTimeOf (now (body .entry)) ⌝ }
+    ensures { λ r. ⌜ r ≡ fieldsOf (now (body .entry)) ⌝ }
 {
     GlonassTime {
         tau_c: numbers::u64_at(body, 0),
@@ -41,26 +41,21 @@ fn read_eb(body: &[u8]) -> GlonassTime
     }
 }
 
-pub fn decode_eb(body: &[u8]) -> DecodedEb
-    ensures { λ r. ⌜ r ≡ decodedEB (now (body .entry)) ⌝ }
+// The fields of EBh data.
+pub fn decode_eb(body: &[u8]) -> Decoded
+    ensures { λ r. ⌜ r ≡ decodedOf (now (body .entry)) ⌝ }
 {
     let refusal = kinds::content(0xEB, body);
-    if refusal == 0 {
-        return DecodedEb {
-            refusal,
-            fields: read_eb(body),
-        };
+    if refusal != 0 {
+        return Decoded::Refused(refusal);
     }
-    DecodedEb {
-        refusal,
-        fields: read_eb(&body[..0]),
-    }
+    Decoded::Fields(read_eb(body))
 }
 
 const WIDTHS_EB: [usize; 9] = [8, 4, 2, 1, 1, 1, 4, 4, 1];
 
 fn words_eb(f: GlonassTime) -> [u64; 9]
-    ensures { λ r. ⌜ r ≡ words (glonassTimeRows f) ⌝ }
+    ensures { λ r. ⌜ r ≡ words (rowsOf f) ⌝ }
 {
     [
         f.tau_c,
@@ -75,9 +70,10 @@ fn words_eb(f: GlonassTime) -> [u64; 9]
     ]
 }
 
+// The data of EBh from its fields.
 pub fn encode_eb(f: GlonassTime, buf: &mut [u8]) -> Written
-    ensures { λ r. ⌜ (r ≡ encodedOf 0xEB (bytesEB f) (now (buf .entry)))
-        × (now (buf .exit) ≡ encodedInto 0xEB (bytesEB f) (now (buf .entry))) ⌝ }
+    ensures { λ r. ⌜ (r ≡ encodedOf 0xEB (dataOf f) (now (buf .entry)))
+        × (now (buf .exit) ≡ encodedInto 0xEB (dataOf f) (now (buf .entry))) ⌝ }
 {
     rows::encode(0xEB, &words_eb(f), &WIDTHS_EB, buf)
 }

@@ -6,13 +6,15 @@
 // of 5A; the families 01 and 20 encode this number and this value as their two fields. A call's line has family, identifier, the
 // refusal of the data and, where there is none, the fields, the wide ones first, signed ones last, FP fields as their bits; then the
 // refusal and the length of the encoding, and last the buffer up to four bytes past the room.
+use fields_4a::Ionosphere;
+use fields_4b::Scales;
 use fields_20::Satellite;
 use fields_23::Zone;
 use fields_43::Outcome;
 use fields_46::Time;
-use fields_49::Ephemeris;
 use fields_49::Glonass;
 use fields_49::Gps;
+use fields_eb::GlonassTime;
 use fields_byte::OneByte;
 use octets::Written;
 
@@ -108,12 +110,16 @@ fn run_one(id: u8, d: &[u8], count: u8, value: u8, buf: &mut [u8]) {
     answer(fields_byte::encode_one_byte(id, f, buf));
 }
 
+fn show_20(f: Satellite) {
+    octet(0);
+    octet(f.system);
+    octet(f.number);
+}
+
 fn run_20(d: &[u8], system: u8, satellite: u8, buf: &mut [u8]) {
-    let r = fields_20::decode_20(d);
-    octet(r.refusal);
-    if r.refusal == 0 {
-        octet(r.fields.system);
-        octet(r.fields.number);
+    match fields_20::decode_20(d) {
+        fields_20::Decoded::Fields(f) => show_20(f),
+        fields_20::Decoded::Refused(n) => octet(n),
     }
     let f = Satellite {
         system: system,
@@ -141,17 +147,19 @@ fn changed_23(f: Zone, which: u8, value: u8) -> Zone {
     }
 }
 
-fn run_23(d: &[u8], which: u8, value: u8, buf: &mut [u8]) {
-    let r = fields_23::decode_23(d);
-    octet(r.refusal);
-    if r.refusal != 0 {
-        return;
-    }
-    let f = r.fields;
+fn show_23(f: Zone, which: u8, value: u8, buf: &mut [u8]) {
+    octet(0);
     number(f.count as u64);
     int8(f.hours);
     int8(f.minutes);
     answer(fields_23::encode_23(changed_23(f, which, value), buf));
+}
+
+fn run_23(d: &[u8], which: u8, value: u8, buf: &mut [u8]) {
+    match fields_23::decode_23(d) {
+        fields_23::Decoded::Fields(f) => show_23(f, which, value, buf),
+        fields_23::Decoded::Refused(n) => octet(n),
+    }
 }
 
 fn changed_43(f: Outcome, which: u8, value: u8) -> Outcome {
@@ -169,13 +177,8 @@ fn changed_43(f: Outcome, which: u8, value: u8) -> Outcome {
     }
 }
 
-fn run_43(d: &[u8], which: u8, value: u8, buf: &mut [u8]) {
-    let r = fields_43::decode_43(d);
-    octet(r.refusal);
-    if r.refusal != 0 {
-        return;
-    }
-    let f = r.fields;
+fn show_43(f: Outcome, which: u8, value: u8, buf: &mut [u8]) {
+    octet(0);
     let all = [
         f.antenna as u64,
         f.glonass as u64,
@@ -184,6 +187,13 @@ fn run_43(d: &[u8], which: u8, value: u8, buf: &mut [u8]) {
     ];
     numbers(&all);
     answer(fields_43::encode_43(changed_43(f, which, value), buf));
+}
+
+fn run_43(d: &[u8], which: u8, value: u8, buf: &mut [u8]) {
+    match fields_43::decode_43(d) {
+        fields_43::Decoded::Fields(f) => show_43(f, which, value, buf),
+        fields_43::Decoded::Refused(n) => octet(n),
+    }
 }
 
 // A second is 604,800 more than the value and a year 1,900 more, so that those past the ends of the ranges can be had.
@@ -218,13 +228,8 @@ fn changed_46(f: Time, which: u8, value: u8) -> Time {
     }
 }
 
-fn run_46(d: &[u8], which: u8, value: u8, buf: &mut [u8]) {
-    let r = fields_46::decode_46(d);
-    octet(r.refusal);
-    if r.refusal != 0 {
-        return;
-    }
-    let f = r.fields;
+fn show_46(f: Time, which: u8, value: u8, buf: &mut [u8]) {
+    octet(0);
     word(f.second);
     half(f.year);
     octet(f.day);
@@ -232,6 +237,13 @@ fn run_46(d: &[u8], which: u8, value: u8, buf: &mut [u8]) {
     int8(f.hours);
     int8(f.minutes);
     answer(fields_46::encode_46(changed_46(f, which, value), buf));
+}
+
+fn run_46(d: &[u8], which: u8, value: u8, buf: &mut [u8]) {
+    match fields_46::decode_46(d) {
+        fields_46::Decoded::Fields(f) => show_46(f, which, value, buf),
+        fields_46::Decoded::Refused(n) => octet(n),
+    }
 }
 
 fn show_gps(f: Gps) {
@@ -274,7 +286,7 @@ fn run_gps(f: Gps, which: u8, value: u8, buf: &mut [u8]) {
     if which == 1 {
         g.prn = value;
     }
-    answer(fields_49::encode_gps(g, buf));
+    answer(fields_49::encode_49_gps(g, buf));
 }
 
 fn show_glonass(f: Glonass) {
@@ -305,25 +317,20 @@ fn changed_glonass(f: Glonass, which: u8, value: u8) -> Glonass {
 fn run_glonass(f: Glonass, which: u8, value: u8, buf: &mut [u8]) {
     number(0);
     show_glonass(f);
-    answer(fields_49::encode_glonass(changed_glonass(f, which, value), buf));
+    answer(fields_49::encode_49_glonass(changed_glonass(f, which, value), buf));
 }
 
 fn run_49(d: &[u8], which: u8, value: u8, buf: &mut [u8]) {
     match fields_49::decode_49(d) {
-        Ephemeris::Gps(f) => run_gps(f, which, value, buf),
-        Ephemeris::Glonass(f) => run_glonass(f, which, value, buf),
-        Ephemeris::Refused(n) => octet(n),
+        fields_49::Decoded::Gps(f) => run_gps(f, which, value, buf),
+        fields_49::Decoded::Glonass(f) => run_glonass(f, which, value, buf),
+        fields_49::Decoded::Refused(n) => octet(n),
     }
 }
 
 // 4Ah and 4Bh have no ranges, so that no change would be refused.
-fn run_4a(d: &[u8], buf: &mut [u8]) {
-    let r = fields_4a::decode_4a(d);
-    octet(r.refusal);
-    if r.refusal != 0 {
-        return;
-    }
-    let f = r.fields;
+fn show_4a(f: Ionosphere, buf: &mut [u8]) {
+    octet(0);
     let narrow = [
         f.alpha0,
         f.alpha1,
@@ -339,13 +346,15 @@ fn run_4a(d: &[u8], buf: &mut [u8]) {
     answer(fields_4a::encode_4a(f, buf));
 }
 
-fn run_4b(d: &[u8], buf: &mut [u8]) {
-    let r = fields_4b::decode_4b(d);
-    octet(r.refusal);
-    if r.refusal != 0 {
-        return;
+fn run_4a(d: &[u8], buf: &mut [u8]) {
+    match fields_4a::decode_4a(d) {
+        fields_4a::Decoded::Fields(f) => show_4a(f, buf),
+        fields_4a::Decoded::Refused(n) => octet(n),
     }
-    let f = r.fields;
+}
+
+fn show_4b(f: Scales, buf: &mut [u8]) {
+    octet(0);
     let wide = [f.a0, f.a1, f.tau_c];
     numbers(&wide);
     word(f.tot);
@@ -360,13 +369,15 @@ fn run_4b(d: &[u8], buf: &mut [u8]) {
     answer(fields_4b::encode_4b(f, buf));
 }
 
-fn run_eb(d: &[u8], which: u8, value: u8, buf: &mut [u8]) {
-    let r = fields_eb::decode_eb(d);
-    octet(r.refusal);
-    if r.refusal != 0 {
-        return;
+fn run_4b(d: &[u8], buf: &mut [u8]) {
+    match fields_4b::decode_4b(d) {
+        fields_4b::Decoded::Fields(f) => show_4b(f, buf),
+        fields_4b::Decoded::Refused(n) => octet(n),
     }
-    let f = r.fields;
+}
+
+fn show_eb(f: GlonassTime, which: u8, value: u8, buf: &mut [u8]) {
+    octet(0);
     number(f.tau_c);
     let narrow = [f.tau_gps, f.b1, f.b2];
     words(&narrow);
@@ -380,6 +391,13 @@ fn run_eb(d: &[u8], which: u8, value: u8, buf: &mut [u8]) {
         g.kp = value;
     }
     answer(fields_eb::encode_eb(g, buf));
+}
+
+fn run_eb(d: &[u8], which: u8, value: u8, buf: &mut [u8]) {
+    match fields_eb::decode_eb(d) {
+        fields_eb::Decoded::Fields(f) => show_eb(f, which, value, buf),
+        fields_eb::Decoded::Refused(n) => octet(n),
+    }
 }
 
 fn run(family: u8, id: u8, d: &[u8], which: u8, value: u8, buf: &mut [u8]) {

@@ -1,19 +1,24 @@
--- `encode_20` meets its contract: as `deliver` has it.
+-- `encode_20` meets its contract: the words and their widths are those of the rows.
 use borrow.Author.Needs.{needs}
+use Rattle.rows.specs.Layout.{joined, laid, total, short, packs, packed}
+use Rattle.fields_20.specs.Fields.{dataOf}
 use Rattle.fields_20.proofs.encode_20.Statement.{statement}
 use Rattle.fields_20.proofs.encode_20.Tie as tie
 
-slice-aggregate-deliver : tie.Need-slice-aggregate-deliver
-slice-aggregate-deliver c = search needs
+slice-aggregate-encode : tie.Need-slice-aggregate-encode
+slice-aggregate-encode c = search needs
 
-deliver-requires : tie.Need-deliver-requires
-deliver-requires c κs = tt
+slice-aggregate-encode-2 : tie.Need-slice-aggregate-encode-2
+slice-aggregate-encode-2 c = search needs
 
 same-length : tie.Need-same-length
 same-length c = search needs
 
 returns : tie.Need-returns
-returns c = c .before .before .deliver .ensures
+unfolding dataOf joined laid total short packs packed
+returns c =
+    let d = c .before .before in
+    rw (d .before .before .before .before .words-20 .ensures) at (d .encode .ensures)
 
 pub encode-20-spec : {M : Type 1} → statement M
-encode-20-spec = tie.close (tie.spec slice-aggregate-deliver deliver-requires same-length returns)
+encode-20-spec = tie.close (tie.spec (λ _ _. tt) slice-aggregate-encode slice-aggregate-encode-2 (λ _ _. tt) same-length returns)

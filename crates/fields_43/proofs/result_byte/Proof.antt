@@ -1,9 +1,11 @@
--- `result_byte` meets its contract: the parts do not overlap.
-use mathlib.Core.Bool.{Bool, true, false}
+-- `result_byte` meets its contract: parts that there is room for do not overlap.
+use mathlib.Core.Bool.{Bool, true, false, and-eq-true-iff}
 use mathlib.Core.Path.{_≡_, _∙_}
 use Prim.Native.Nat.{ℕ, _+_, _*_, _%_, _≤_}
 use native.Mathlib.Omega.{arith}
+use borrow.Author.Tests.{leb-true}
 use lib.Bits.{bitOr, or-shifted}
+use lib.Dec.{leb}
 use Rattle.fields_43.specs.Fields.{bitOf}
 use Rattle.fields_43.proofs.result_byte.Statement.{statement}
 use Rattle.fields_43.proofs.result_byte.Tie as tie
@@ -31,11 +33,15 @@ bit-requires-2 c κs = tt
 
 returns : tie.Need-returns
 returns c =
-    let p = c .before .before in
-    let g = p .before .before in
-    let f = g .args .f in
-    rw (p .before .bit .ensures, p .bit2 .ensures)
-    (packed (f .antenna) (bitOf (f .glonass)) (bitOf (f .gps)) (f .low) (g .pre .0) (bit-le (f .glonass)) (bit-le (f .gps)) (g .pre .1))
+    let i = c .before .before in
+    let p = i .before .before .before in
+    let f = p .before .before .args .f in
+    let b = and-eq-true-iff (leb (f .antenna) 3) (leb (f .low) 15) .0 (i .if1 .taken) in
+    rw (i .if1 .taken, p .before .bit .ensures, p .bit2 .ensures)
+    (packed (f .antenna) (bitOf (f .glonass)) (bitOf (f .gps)) (f .low) (leb-true _ _ (b .0)) (bit-le (f .glonass)) (bit-le (f .gps)) (leb-true _ _ (b .1)))
+
+returns-2 : tie.Need-returns-2
+returns-2 c = rw (c .if1 .left)
 
 pub result-byte-spec : {M : Type 1} → statement M
-result-byte-spec = tie.close (tie.spec bit-requires bit-requires-2 returns)
+result-byte-spec = tie.close (tie.spec bit-requires bit-requires-2 returns returns-2)

@@ -1,7 +1,7 @@
 -- `encode_46` meets its contract: the words and their widths are those of the rows.
 use borrow.Author.Needs.{needs}
 use Rattle.rows.specs.Layout.{joined, laid, total, short, packs, packed}
-use Rattle.fields_46.specs.Time.{bytes46}
+use Rattle.fields_46.specs.Fields.{dataOf}
 use Rattle.fields_46.proofs.encode_46.Statement.{statement}
 use Rattle.fields_46.proofs.encode_46.Tie as tie
 
@@ -15,7 +15,7 @@ same-length : tie.Need-same-length
 same-length c = search needs
 
 returns : tie.Need-returns
-unfolding bytes46 joined laid total short packs packed
+unfolding dataOf joined laid total short packs packed
 returns c =
     let d = c .before .before in
     rw (d .before .before .before .before .words-46 .ensures) at (d .encode .ensures)

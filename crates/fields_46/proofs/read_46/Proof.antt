@@ -3,12 +3,12 @@ use mathlib.Core.Path.{_∙_}
 use borrow.Author.Needs.{sfits-of}
 use mir.Facts.{toZ-ofZ}
 use mir.Syntax.{w8}
-use Rattle.fields_46.specs.Time.{timeOf}
+use Rattle.fields_46.specs.Fields.{fieldsOf}
 use Rattle.fields_46.proofs.read_46.Statement.{statement}
 use Rattle.fields_46.proofs.read_46.Tie as tie
 
 returns : tie.Need-returns
-unfolding timeOf
+unfolding fieldsOf
 returns c =
     λ k. record {
       second = c .before .before .before .before .before .u32-at .ensures k;

@@ -1,10 +1,10 @@
 -- `read_4a` meets its contract: field by field, by what the readers ensure. They ask nothing.
-use Rattle.fields_4a.specs.Ionosphere.{ionosphereOf}
+use Rattle.fields_4a.specs.Fields.{fieldsOf}
 use Rattle.fields_4a.proofs.read_4a.Statement.{statement}
 use Rattle.fields_4a.proofs.read_4a.Tie as tie
 
 returns : tie.Need-returns
-unfolding ionosphereOf
+unfolding fieldsOf
 returns c =
     λ k. record {
       alpha0 = c .before .before .before .before .before .before .before .before .u32-at .ensures k;

@@ -1,29 +1,20 @@
 -- `decode_4b` meets its contract: by the answer of `content`.
-use mathlib.Core.Path.{sym}
-use borrow.Author.Needs.{needs}
+use mathlib.Core.Path.{sym, ap}
 use borrow.Author.Tests.{eq-eqb, ne-eqb}
-use Rattle.fields_4b.specs.Scales.{decoded4B}
+use Rattle.fields_4b.specs.Fields.{decodedOf}
+use Rattle.fields_4b.specs.declared.Decoded.{Decoded}
 use Rattle.fields_4b.proofs.decode_4b.Statement.{statement}
 use Rattle.fields_4b.proofs.decode_4b.Tie as tie
 
 returns : tie.Need-returns
-unfolding decoded4B
-returns c = rw (sym (c .before .before .content .ensures), eq-eqb _ _ (c .before .if1 .taken), c .read-4b .ensures)
-
-slice-aggregate-read-4b : tie.Need-slice-aggregate-read-4b
-slice-aggregate-read-4b c = search needs
+unfolding decodedOf
+returns c = rw (sym (c .before .content .ensures), ne-eqb _ _ (c .if1 .taken))
 
 returns-2 : tie.Need-returns-2
-unfolding decoded4B
-returns-2 c = rw (sym (c .before .before .before .content .ensures), ne-eqb _ _ (c .before .before .if1 .left), c .read-4b2 .ensures)
+unfolding decodedOf
+returns-2 c =
+    let i = c .before in
+    rw (sym (i .before .content .ensures), eq-eqb _ _ (i .if1 .left)) (ap Decoded.Fields (c .read-4b .ensures))
 
 pub decode-4b-spec : {M : Type 1} → statement M
-decode-4b-spec =
-    tie.close
-    (tie.spec
-    (λ _ _. tt)
-    (λ _ _. tt)
-    returns
-    slice-aggregate-read-4b
-    (λ _ _. tt)
-    returns-2)
+decode-4b-spec = tie.close (tie.spec (λ _ _. tt) returns (λ _ _. tt) returns-2)

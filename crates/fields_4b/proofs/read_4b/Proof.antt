@@ -4,12 +4,12 @@ use borrow.Author.Needs.{sfits-of}
 use mir.Facts.{toZ-ofZ}
 use mir.Syntax.{w16}
 use Rattle.numbers.specs.Signed.{int16}
-use Rattle.fields_4b.specs.Scales.{scalesOf}
+use Rattle.fields_4b.specs.Fields.{fieldsOf}
 use Rattle.fields_4b.proofs.read_4b.Statement.{statement}
 use Rattle.fields_4b.proofs.read_4b.Tie as tie
 
 returns : tie.Need-returns
-unfolding scalesOf
+unfolding fieldsOf
 returns c =
     λ k. record {
       a0 = c .before .before .before .before .before .before .before .before .before .before .before .before .before .u64-at .ensures k;

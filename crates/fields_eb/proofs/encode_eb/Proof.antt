@@ -1,7 +1,7 @@
 -- `encode_eb` meets its contract: the words and their widths are those of the rows.
 use borrow.Author.Needs.{needs}
 use Rattle.rows.specs.Layout.{joined, laid, total, short, packs, packed}
-use Rattle.fields_eb.specs.GlonassTime.{bytesEB}
+use Rattle.fields_eb.specs.Fields.{dataOf}
 use Rattle.fields_eb.proofs.encode_eb.Statement.{statement}
 use Rattle.fields_eb.proofs.encode_eb.Tie as tie
 
@@ -15,7 +15,7 @@ same-length : tie.Need-same-length
 same-length c = search needs
 
 returns : tie.Need-returns
-unfolding bytesEB joined laid total short packs packed
+unfolding dataOf joined laid total short packs packed
 returns c =
     let d = c .before .before in
     rw (d .before .before .before .before .words-eb .ensures) at (d .encode .ensures)

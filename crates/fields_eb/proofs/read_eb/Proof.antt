@@ -1,10 +1,10 @@
 -- `read_eb` meets its contract: field by field, by what the readers ensure. They ask nothing.
-use Rattle.fields_eb.specs.GlonassTime.{glonassTimeOf}
+use Rattle.fields_eb.specs.Fields.{fieldsOf}
 use Rattle.fields_eb.proofs.read_eb.Statement.{statement}
 use Rattle.fields_eb.proofs.read_eb.Tie as tie
 
 returns : tie.Need-returns
-unfolding glonassTimeOf
+unfolding fieldsOf
 returns c =
     λ k. record {
       «tau_c» = c .before .before .before .before .before .before .before .before .u64-at .ensures k;

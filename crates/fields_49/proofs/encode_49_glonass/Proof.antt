@@ -1,0 +1,24 @@
+-- `encode_49_glonass` meets its contract: the words and their widths are those of the rows.
+use borrow.Author.Needs.{needs}
+use Rattle.rows.specs.Layout.{joined, laid, total, short, packs, packed}
+use Rattle.fields_49.specs.Fields.{dataOfGlonass}
+use Rattle.fields_49.proofs.encode_49_glonass.Statement.{statement}
+use Rattle.fields_49.proofs.encode_49_glonass.Tie as tie
+
+slice-aggregate-encode : tie.Need-slice-aggregate-encode
+slice-aggregate-encode c = search needs
+
+slice-aggregate-encode-2 : tie.Need-slice-aggregate-encode-2
+slice-aggregate-encode-2 c = search needs
+
+same-length : tie.Need-same-length
+same-length c = search needs
+
+returns : tie.Need-returns
+unfolding dataOfGlonass joined laid total short packs packed
+returns c =
+    let d = c .before .before in
+    rw (d .before .before .before .before .words-49-glonass .ensures) at (d .encode .ensures)
+
+pub encode-49-glonass-spec : {M : Type 1} → statement M
+encode-49-glonass-spec = tie.close (tie.spec (λ _ _. tt) slice-aggregate-encode slice-aggregate-encode-2 (λ _ _. tt) same-length returns)
