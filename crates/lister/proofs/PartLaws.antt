@@ -6,7 +6,6 @@ use native.Mathlib.Omega.{arith}
 use borrow.Author.Tests.{le-ltb}
 use lib.ListN.{length, take, drop, length-drop}
 use lib.Seq.{take-all, drop-drop}
-use Rattle.octets.specs.Placing.{placed}
 use Rattle.octets.proofs.PlacingLaws.{length-placed}
 use Rattle.octets.specs.declared.Written.{Written}
 use Rattle.octets.specs.Delivery.{writtenOf, filledOf, Counts}

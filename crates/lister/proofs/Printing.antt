@@ -1,22 +1,21 @@
 -- What a program prints that lists its bytes in parts, over the contracts of the code alone: whatever the parts, it is the listing of
 -- all the bytes.
-use mathlib.Core.Bool.{Bool, true, false, cond}
-use mathlib.Core.List.{List, [], _∷_, _++_}
+use mathlib.Core.Bool.{Bool, cond}
+use mathlib.Core.List.{List, _++_}
 use mathlib.Core.Path.{_≡_, refl, sym, ap, _∙_}
 use Prim.Native.Nat.{ℕ, _-_}
 use native.Mathlib.Omega.{arith}
-use lib.Dec.{ltb}
 use lib.ListN.{length, take, drop}
-use Rattle.line.specs.Record.{Rec, limit, eventOf, stepped, fresh}
+use Rattle.octets.specs.Delivery.{Counts}
+use Rattle.line.specs.Record.{Rec, eventOf, stepped, fresh}
 use Rattle.line.specs.Record.Fresh.{made}
 use Rattle.record.specs.declared.Reader.{Reader}
 use Rattle.record.specs.declared.Fresh.{Fresh}
 use Rattle.record.specs.View.{view}
 use Rattle.record.specs.Posts.{FreshPost}
-use Rattle.octets.specs.Delivery.{Counts}
-use Rattle.listing.specs.Text.{totalOf, longestEvent}
+use Rattle.listing.specs.Text.{totalOf}
 use Rattle.lister.specs.declared.Part.{Part}
-use Rattle.lister.specs.Listing.{lineOf, text, Segment, segment}
+use Rattle.lister.specs.Listing.{lineOf, text, segment}
 use Rattle.lister.specs.Posts.{PartPost, Good, Prints}
 use Rattle.lister.specs.Posts.Prints.{ended, full, part}
 use Rattle.lister.proofs.SegmentLaws.{segment-by, text-segment-more}

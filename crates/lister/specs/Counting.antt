@@ -9,9 +9,11 @@ use Rattle.line.specs.Record.Fresh.{made, refused}
 use Rattle.record.specs.declared.Event.{Event as Shown}
 use Rattle.record.specs.declared.Event.the-variants.{Nothing, Message, Refusal}
 
+-- 1 of an event, 0 of none
 abbrev pub occurs : Event → ℕ
 occurs e = byEvent e 0 (λ id d n. 1) (λ v id n. 1)
 
+-- up to the first byte that can't be counted
 abbrev pub eventCount : Rec → List ℕ → ℕ
 eventCount r [] = 0
 eventCount r (b ∷ bs) = cond (ltb (r .fed) limit) (occurs (eventOf r b) + eventCount (stepped r b) bs) 0
@@ -21,7 +23,7 @@ abbrev pub countOf : Fresh → List ℕ → ℕ
 countOf (made r) s = eventCount r s
 countOf (refused v) s = 0
 
--- of a private function: an event in memory
+-- of a private function: the same of an event in memory
 abbrev pub occursShown : Shown → ℕ
 occursShown Nothing = 0
 occursShown Message = 1

@@ -2,19 +2,18 @@
 use mathlib.Core.List.{List}
 use mathlib.Core.Path.{_≡_, sym, ap, _∙_, subst}
 use Prim.Native.Nat.{ℕ, _+_, _-_, _≤_}
-use native.Mathlib.Omega.{arith}
 use borrow.Author.Tests.{le-ltb}
 use lib.ListN.{length, take, drop}
 use lib.Seq.{drop-drop}
+use Rattle.octets.specs.Delivery.{Counts}
 use Rattle.record.specs.declared.Reader.{Reader}
 use Rattle.record.specs.View.{view}
-use Rattle.octets.specs.Delivery.{Counts}
 use Rattle.listing.specs.Text.{longestEvent}
 use Rattle.lister.specs.declared.Part.{Part}
 use Rattle.lister.specs.Listing.{segment}
 use Rattle.lister.specs.Posts.{PartIs, PartPost, Good}
 use Rattle.lister.proofs.PartLaws.{rest-of, taken-of-rest, part-is, part-good}
-use Rattle.streaming.specs.Through.{Through, until, through}
+use Rattle.streaming.specs.Through.{until, through}
 use Rattle.streaming.proofs.ThroughLaws.{through-segment, segment-last}
 
 -- the call lists s from a place on

@@ -32,56 +32,51 @@ segment-last =
     (λ room r l t q h. absurd (let g : _≡_ {A = ℕ} 0 1 = cc in omega arith))
     (λ room r b bs k q h. ap (led r (through (stepped r b) bs)) (sym k)) (λ room r b bs p k i q h. absurd (omega arith))
 
+-- what holds at the end, at a byte that can't be counted, and of one byte more in front, holds of all bytes
+module _ (P : Rec → List ℕ → Through → Type 0)
+    (none : (r : Rec) → P r [] (until 0 r))
+    (limited : (r : Rec) (b : ℕ) (bs : List ℕ) → ltb (r .fed) limit ≡ false → P r (b ∷ bs) (until 3 r))
+    (more : (r : Rec) (b : ℕ) (bs : List ℕ) (x : Through) → ltb (r .fed) limit ≡ true → P (stepped r b) bs x → P r (b ∷ bs) x) where
+  through-by : (l : List ℕ) (r : Rec) → P r l (through r l)
+  through-by [] r = none r
+  through-by (b ∷ bs) r = by (ltb (r .fed) limit) refl (through-by bs (stepped r b))
+    where
+      by : (t : Bool) → ltb (r .fed) limit ≡ t → P (stepped r b) bs (through (stepped r b) bs)
+          → P r (b ∷ bs) (led r (through (stepped r b) bs) t)
+      by true k h = more r b bs (through (stepped r b) bs) k h
+      by false k h = limited r b bs k
+
 -- more bytes, where the first were all counted
 pub through-more : (a b : List ℕ) (r : Rec) → through r a .refusal ≡ 0 → through r (a ++ b) ≡ through (through r a .after) b
-through-more [] b r h = refl
-through-more (x ∷ xs) b r h = by (ltb (r .fed) limit) h (through-more xs b (stepped r x))
-  where
-    by : (t : Bool) → led r (through (stepped r x) xs) t .refusal ≡ 0
-        → (through (stepped r x) xs .refusal ≡ 0 → through (stepped r x) (xs ++ b) ≡ through (through (stepped r x) xs .after) b)
-        → led r (through (stepped r x) (xs ++ b)) t ≡ through (led r (through (stepped r x) xs) t .after) b
-    by true h ih = ih h
-    by false h ih = absurd (omega arith)
+through-more a b =
+    through-by (λ r l x. x .refusal ≡ 0 → through r (l ++ b) ≡ through (x .after) b) (λ r h. refl) (λ r c cs k h. absurd (omega arith))
+    (λ r c cs x k i h. ap (led r (through (stepped r c) (cs ++ b))) k ∙ i h) a
 
 -- bytes that were all counted
 pub through-fed : (l : List ℕ) (r : Rec) → through r l .refusal ≡ 0 → through r l .after .fed ≡ r .fed + length l
-through-fed [] r h = omega arith
-through-fed (b ∷ bs) r h = by (ltb (r .fed) limit) h (through-fed bs (stepped r b))
-  where
-    by : (t : Bool) → led r (through (stepped r b) bs) t .refusal ≡ 0
-        → (through (stepped r b) bs .refusal ≡ 0 → through (stepped r b) bs .after .fed ≡ r .fed + 1 + length bs)
-        → led r (through (stepped r b) bs) t .after .fed ≡ r .fed + length (b ∷ bs)
-    by true h ih = omega (arith, ih h)
-    by false h ih = absurd (omega arith)
+through-fed =
+    through-by (λ r l x. x .refusal ≡ 0 → x .after .fed ≡ r .fed + length l) (λ r h. omega arith) (λ r b bs k h. absurd (omega arith))
+    (λ r b bs x k i h. omega (arith, i h))
 
 pub through-limit : (l : List ℕ) (r : Rec) → r .fed ≤ limit → through r l .refusal ≡ 0 → through r l .after .fed ≤ limit
-through-limit [] r f h = f
-through-limit (b ∷ bs) r f h = by (ltb (r .fed) limit) refl h (through-limit bs (stepped r b))
-  where
-    by : (t : Bool) → ltb (r .fed) limit ≡ t → led r (through (stepped r b) bs) t .refusal ≡ 0
-        → (r .fed + 1 ≤ limit → through (stepped r b) bs .refusal ≡ 0 → through (stepped r b) bs .after .fed ≤ limit)
-        → led r (through (stepped r b) bs) t .after .fed ≤ limit
-    by true e h ih = ih (omega (arith, ltb-true (r .fed) limit e)) h
-    by false e h ih = absurd (omega arith)
+through-limit =
+    through-by (λ r l x. r .fed ≤ limit → x .refusal ≡ 0 → x .after .fed ≤ limit) (λ r f h. f) (λ r b bs k f h. absurd (omega arith))
+    (λ r b bs x k i f h. i (omega (arith, ltb-true (r .fed) limit k)) h)
 
 pub through-below : (l : List ℕ) (r : Rec) → 0 < length l → through r l .refusal ≡ 0 → r .fed < limit
-through-below [] r n h = absurd (omega arith)
-through-below (b ∷ bs) r n h = by (ltb (r .fed) limit) refl h
-  where
-    by : (t : Bool) → ltb (r .fed) limit ≡ t → led r (through (stepped r b) bs) t .refusal ≡ 0 → r .fed < limit
-    by true e h = ltb-true (r .fed) limit e
-    by false e h = absurd (omega arith)
+through-below =
+    through-by (λ r l x. 0 < length l → x .refusal ≡ 0 → r .fed < limit) (λ r n h. absurd (omega arith)) (λ r b bs k n h. absurd (omega arith))
+    (λ r b bs x k i n h. ltb-true (r .fed) limit k)
 
 -- the listing of the bytes ends with the total of the record after them
 pub total-last : (l : List ℕ) (r : Rec) → (lines : List ℕ) × (text r l ≡ lines ++ totalOf (through r l .after))
-total-last [] r = ([], refl)
-total-last (b ∷ bs) r = by (ltb (r .fed) limit) (total-last bs (stepped r b))
-  where
-    s : List ℕ
-    s = lineOf (r .fed) (eventOf r b)
-
-    by : (t : Bool) → (lines : List ℕ) × (text (stepped r b) bs ≡ lines ++ totalOf (through (stepped r b) bs .after))
-        → (lines : List ℕ)
-        × (cond t (s ++ text (stepped r b) bs) (totalOf r) ≡ lines ++ totalOf (led r (through (stepped r b) bs) t .after))
-    by true (m, e) = (s ++ m, ap (λ (z : List ℕ). s ++ z) e ∙ sym (append-assoc s m (totalOf (through (stepped r b) bs .after))))
-    by false h = ([], refl)
+total-last =
+    through-by (λ r l x. (lines : List ℕ) × (text r l ≡ lines ++ totalOf (x .after))) (λ r. ([], refl))
+    (λ r b bs k. ([], ap (λ (c : Bool). cond c (lineOf (r .fed) (eventOf r b) ++ text (stepped r b) bs) (totalOf r)) k))
+    (λ r b bs x k h.
+    let s = lineOf (r .fed) (eventOf r b) in (
+      s ++ h .0,
+      ap (λ (c : Bool). cond c (s ++ text (stepped r b) bs) (totalOf r)) k
+          ∙ ap (λ (z : List ℕ). s ++ z) (h .1)
+          ∙ sym (append-assoc s (h .0) (totalOf (x .after))),
+    ))

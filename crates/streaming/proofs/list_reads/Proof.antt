@@ -6,7 +6,7 @@ use Prim.Native.Nat.{ℕ, _+_, _-_, _≤_, _<_}
 use native.Mathlib.Omega.{arith}
 use borrow.Author.Needs.{needs}
 use borrow.Author.Tests.{not-true, not-false}
-use lib.IntN.{ℤ, pos}
+use lib.IntN.{pos}
 use lib.ListN.{length, take, length-append}
 use lib.Signed.{leZ}
 use mir.Syntax.{w64}
@@ -14,10 +14,9 @@ use mir.Val.{toZ, ofZ}
 use Rattle.libc.specs.Io.{Moved}
 use Rattle.io.specs.Counts.{clamped}
 use Rattle.line.specs.Record.{limit}
-use Rattle.record.specs.declared.Reader.{Reader}
 use Rattle.record.specs.View.{view}
 use Rattle.listing.specs.Text.{longestEvent}
-use Rattle.streaming.specs.Through.{Through, until, through}
+use Rattle.streaming.specs.Through.{until, through}
 use Rattle.streaming.specs.Posts.{throughOf}
 use Rattle.streaming.proofs.ReadsLaws.{ReadSoFar, before, further, countable, nearer, none, some}
 use Rattle.streaming.proofs.list_reads.Statement.{statement}

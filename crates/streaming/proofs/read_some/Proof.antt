@@ -1,6 +1,5 @@
 -- `read_some`: the turns are counted down.
 use mathlib.Core.Path.{_≡_, subst}
-use native.Mathlib.Omega.{arith}
 use borrow.Author.Needs.{needs}
 use lib.ListN.{length}
 use Prim.Native.Nat.{ℕ}

@@ -1,6 +1,5 @@
 -- `say_arguments`: each turn names one.
 use Prim.Native.Nat.{_-_}
-use native.Mathlib.Omega.{arith}
 use borrow.Author.Needs.{needs}
 use Rattle.streaming.proofs.say_arguments.Statement.{statement}
 use Rattle.streaming.proofs.say_arguments.Tie as tie
