@@ -1,10 +1,10 @@
 -- The round trips of the calls, from those of the fields and the data.
-use mathlib.Core.Path.{_≡_, refl, sym, ap, _∙_}
-use mathlib.Core.Bool.{Bool, true, false, cond}
+use mathlib.Core.Path.{_≡_, sym, ap, _∙_}
+use mathlib.Core.Bool.{cond}
 use mathlib.Core.List.{List}
-use mathlib.Core.Option.{Option, none, some, Option·none-ne-some, Option·some-injective}
+use mathlib.Core.Option.{Option, none, some, Option·some-injective}
 use Prim.Native.Nat.{ℕ}
-use borrow.Author.Tests.{eq-eqb, eqb-true}
+use borrow.Author.Tests.{eq-eqb}
 use lib.Dec.{eqb}
 use lib.ListN.{length, take}
 use Rattle.octets.proofs.DeliveryLaws.{written-judged, written-back, writes}
@@ -13,6 +13,7 @@ use Rattle.kinds.specs.Kinds.{content}
 use Rattle.encoding.specs.Encoding.{encodedOf, encodedInto}
 use Rattle.encoding.specs.RoundTrip.{EncodeDecode, DecodeEncode}
 use Rattle.encoding.proofs.AcceptedLaws.{Bytes}
+use Rattle.encoding.proofs.DecodedLaws.{answered}
 
 module _ {T D : Type 0} (id : ℕ) (dataOf : T → List ℕ) (decodedOf : List ℕ → D) (holding : T → D) where
   pub encode-decode : (Fits : T → Type 0) → ((f : T) → Fits f → content id (dataOf f) ≡ 0 → decodedOf (dataOf f) ≡ holding f)
@@ -32,16 +33,6 @@ module _ {T D : Type 0} (id : ℕ) (dataOf : T → List ℕ) (decodedOf : List �
         ew ∙ ap (λ (t : List ℕ). encodedOf id t b) (q .1) ∙ e .0,
         eb ∙ ap (λ (t : List ℕ). encodedInto id t b) (q .1) ∙ e .1,
       )
-
--- an answer that holds fields is one of acceptable data: `held` are an answer's fields, where it has any
-module _ {T D : Type 0} (held : D → Option T) (holding : T → D) (refused : ℕ → D) (a : D) (v : ℕ) (f : T) where
-  pub answered : ((g : T) → held (holding g) ≡ some g) → ((n : ℕ) → held (refused n) ≡ none)
-      → cond (eqb v 0) a (refused v) ≡ holding f → (v ≡ 0) × (held a ≡ some f)
-  answered known nothing e = go (eqb v 0) refl e
-    where
-      go : (t : Bool) → eqb v 0 ≡ t → cond t a (refused v) ≡ holding f → (v ≡ 0) × (held a ≡ some f)
-      go true q e = (eqb-true v 0 q, ap held e ∙ known f)
-      go false q e = absurd (Option·none-ne-some f (sym (nothing v) ∙ ap held e ∙ known f))
 
 -- a kind whose answer holds the fields of the data
 module _ {T D : Type 0} (id : ℕ) (fieldsOf : List ℕ → T) (dataOf : T → List ℕ) (holding : T → D) (refused : ℕ → D) where

@@ -4,7 +4,7 @@ use mathlib.Core.Bool.{Bool, true, false, cond, _&&_, and-eq-true-iff}
 use mathlib.Core.List.{List, []}
 use mathlib.Core.Option.{Option, none, some, Option·none-ne-some, Option·some-injective}
 use Prim.Native.Nat.{ℕ}
-use borrow.Author.Tests.{eq-eqb, eqb-true}
+use borrow.Author.Tests.{eqb-true}
 use lib.Dec.{eqb, leb}
 use lib.ListN.{length}
 use Rattle.numbers.specs.Types.{int8uAt}
@@ -13,6 +13,7 @@ use Rattle.ranges.specs.Ranges.{byte, in49}
 use Rattle.kinds.specs.Kinds.{table, rowIn, oneOf, allows, chosen49, lengthOk, content}
 use Rattle.encoding.specs.RoundTrip.{EncodeDecode, DecodeEncode}
 use Rattle.encoding.proofs.AcceptedLaws.{Bytes, accepted-parts}
+use Rattle.encoding.proofs.DecodedLaws.{answered}
 use Rattle.encoding.proofs.RoundTripLaws as laws
 use Rattle.rows.specs.Layout.{AllHeld, joined}
 use Rattle.rows.proofs.RowLaws.{nat, int, readRows, widths, read-joined, joined-read}
@@ -142,7 +143,7 @@ encode-decode-glonass =
 decoded-gps : (d : List ℕ) (f : Gps) → Bytes d → decodedOf d ≡ Decoded.Gps f → (content 0x49 d ≡ 0) × (dataOfGps f ≡ d)
 unfolding decodedOf
 decoded-gps d f y e =
-    let q = laws.answered heldGps Decoded.Gps Decoded.Refused _ (content 0x49 d) f (λ g. refl) (λ n. refl) e in
+    let q = answered heldGps Decoded.Gps Decoded.Refused _ (content 0x49 d) f (λ g. refl) (λ n. refl) e in
     (q .0, go (eqb (int8uAt d 0) 1) refl (q .0) (q .1))
   where
     go : (t : Bool) → eqb (int8uAt d 0) 1 ≡ t → content 0x49 d ≡ 0
@@ -155,7 +156,7 @@ decoded-gps d f y e =
 decoded-glonass : (d : List ℕ) (f : Glonass) → Bytes d → decodedOf d ≡ Decoded.Glonass f → (content 0x49 d ≡ 0) × (dataOfGlonass f ≡ d)
 unfolding decodedOf
 decoded-glonass d f y e =
-    let q = laws.answered heldGlonass Decoded.Glonass Decoded.Refused _ (content 0x49 d) f (λ g. refl) (λ n. refl) e in
+    let q = answered heldGlonass Decoded.Glonass Decoded.Refused _ (content 0x49 d) f (λ g. refl) (λ n. refl) e in
     (q .0, go (eqb (int8uAt d 0) 1) refl (q .0) (q .1))
   where
     go : (t : Bool) → eqb (int8uAt d 0) 1 ≡ t → content 0x49 d ≡ 0

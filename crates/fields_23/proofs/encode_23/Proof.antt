@@ -7,7 +7,7 @@ use native.Mathlib.Omega.{arith}
 use borrow.Author.Needs.{needs}
 use borrow.Author.Tests.{leb-true, lt-leb}
 use lib.Dec.{leb}
-use lib.ListN.{length, take}
+use lib.ListN.{take}
 use lib.Seq.{take-all, length-take-le}
 use Rattle.encoding.specs.Encoding.{encodedOf, encodedInto}
 use Rattle.rows.specs.Layout.{words, joined, laid, total, short, packs, packed}

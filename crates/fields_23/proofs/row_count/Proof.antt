@@ -1,5 +1,4 @@
 -- `row_count` meets its contract: by its test.
-use mathlib.Core.Path.{refl}
 use native.Mathlib.Omega.{arith}
 use borrow.Author.Tests.{le-leb, lt-leb}
 use Rattle.fields_23.proofs.row_count.Statement.{statement}

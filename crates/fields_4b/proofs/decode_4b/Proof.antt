@@ -1,6 +1,6 @@
 -- `decode_4b` meets its contract: by the answer of `content`.
-use mathlib.Core.Path.{sym, ap}
-use borrow.Author.Tests.{eq-eqb, ne-eqb}
+use mathlib.Core.Path.{ap}
+use Rattle.encoding.proofs.DecodedLaws.{refuses, gives}
 use Rattle.fields_4b.specs.Fields.{decodedOf}
 use Rattle.fields_4b.specs.declared.Decoded.{Decoded}
 use Rattle.fields_4b.proofs.decode_4b.Statement.{statement}
@@ -8,13 +8,13 @@ use Rattle.fields_4b.proofs.decode_4b.Tie as tie
 
 returns : tie.Need-returns
 unfolding decodedOf
-returns c = rw (sym (c .before .content .ensures), ne-eqb _ _ (c .if1 .taken))
+returns c = refuses Decoded.Refused _ _ _ (c .before .content .ensures) (c .if1 .taken)
 
 returns-2 : tie.Need-returns-2
 unfolding decodedOf
 returns-2 c =
     let i = c .before in
-    rw (sym (i .before .content .ensures), eq-eqb _ _ (i .if1 .left)) (ap Decoded.Fields (c .read-4b .ensures))
+    gives Decoded.Refused _ _ _ (i .before .content .ensures) (i .if1 .left) _ (ap Decoded.Fields (c .read-4b .ensures))
 
 pub decode-4b-spec : {M : Type 1} → statement M
 decode-4b-spec = tie.close (tie.spec (λ _ _. tt) returns (λ _ _. tt) returns-2)

@@ -1,5 +1,5 @@
 -- `read_4b` meets its contract: field by field, by what the readers ensure. They ask nothing.
-use mathlib.Core.Path.{_≡_, ap, _∙_}
+use mathlib.Core.Path.{ap, _∙_}
 use borrow.Author.Needs.{sfits-of}
 use mir.Facts.{toZ-ofZ}
 use mir.Syntax.{w16}
