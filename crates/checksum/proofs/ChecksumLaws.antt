@@ -9,7 +9,7 @@ use lib.Bits.{bitXor, xor-lt}
 use lib.Dec.{eqb}
 use lib.ListN.{length, getD}
 use Rattle.stuffing.specs.Stuffing.{DLE, stuffed}
-use Rattle.checksum.specs.Checksum.{divisor, shifted, shiftedBy, afterByte, afterBytes, checksum, c1Of, c2Of}
+use Rattle.checksum.specs.Checksum.{divisor, shifted, shiftedBy, afterByte, afterBytes, checksum}
 
 pub after-append : (r : ℕ) (s t : List ℕ) → afterBytes r (s ++ t) ≡ afterBytes (afterBytes r s) t
 unfolding afterBytes
@@ -46,10 +46,3 @@ after-stuffed-lt r (b ∷ d) h k = go (eqb b DLE) (λ q l. after-stuffed-lt q d 
 pub checksum-lt : (id : ℕ) (d : List ℕ) → id < 256 → ((i : ℕ) → i < length d → getD d i 0 < 256) → checksum id d < 65536
 unfolding checksum afterBytes
 checksum-lt id d h k = after-stuffed-lt (afterByte 0 id) d (after-byte-lt 0 id (omega arith) h) k
-
--- its two bytes
-pub c1-lt : (id : ℕ) (d : List ℕ) → c1Of id d < 256
-c1-lt id d = omega arith
-
-pub c2-lt : (id : ℕ) (d : List ℕ) → id < 256 → ((i : ℕ) → i < length d → getD d i 0 < 256) → c2Of id d < 256
-c2-lt id d h k = omega (arith, checksum-lt id d h k)

@@ -2,7 +2,7 @@
 -- each place alone are the same: so 16 or 32 shifts are one sum.
 use mathlib.Core.Path.{_≡_, refl, sym, ap, ap₂, _∙_}
 use Prim.Native.Nat.{ℕ, zero, suc, _+_, _*_, _/_, _%_, _^_, _<_}
-use native.Mathlib.Nat.{add-zero, zero-mul, one-mul, div-add-mod', mod-lt, div-lt-iff-lt-mul, pow-succ', suc-add, zero-add, div-le-self, lt-of-le-of-lt}
+use native.Mathlib.Nat.{add-zero, zero-mul, one-mul, mod-lt, div-lt-iff-lt-mul, pow-succ', suc-add, zero-add}
 use native.Mathlib.Omega.{arith}
 use lib.Arith.{bin-ind}
 use lib.Bits.{bitXor, differ, xor-step, xor-zero-r, xor-comm, xor-lt, xor-mod, xor-shr, xor-block, xor-shifted, xor-self}

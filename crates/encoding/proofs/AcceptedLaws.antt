@@ -28,10 +28,6 @@ accepted-parts id r d row h = go (lengthOk (r .kind) d) (r .ranges d) (rw row at
     go true false z = absurd (omega arith)
     go false b z = absurd (omega arith)
 
-pub accepted-made : (id : ℕ) (r : Row) (d : List ℕ) → rowIn table id ≡ some r → lengthOk (r .kind) d ≡ true → r .ranges d ≡ true → content id d ≡ 0
-unfolding content
-accepted-made id r d row a b = rw (row, a, b)
-
 module _ (id a b : ℕ) (f : List ℕ → Bool) (d : List ℕ) where
   -- one of two lengths
   pub two-lengths : rowIn table id ≡ some (oneOf id a b f) → content id d ≡ 0 → (length d ≡ a) ⊎ (length d ≡ b)

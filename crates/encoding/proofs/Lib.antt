@@ -1,4 +1,3 @@
-pub mod WrittenLaws
 pub mod AcceptedLaws
 pub mod EntryLaws
 pub mod DecodedLaws

@@ -3,11 +3,11 @@ use mathlib.Core.Path.{_≡_, refl, _∙_}
 use mathlib.Core.Bool.{Bool, true, false, cond, not, _&&_, _||_, and-eq-true-iff}
 use mathlib.Core.List.{List, [], _∷_}
 use mathlib.Core.Option.{Option, none, some}
-use Prim.Native.Nat.{ℕ, _+_, _*_, _-_, _/_, _%_, _≤_, _<_, max}
+use Prim.Native.Nat.{ℕ, _+_, _*_, _-_, _/_, _%_, _≤_, max}
 use native.Mathlib.Nat.{div-add-mod', mul-le-mul-right, le-max-left, le-max-right}
 use native.Mathlib.Omega.{arith}
-use borrow.Author.Tests.{eqb-true, eqb-false, leb-true, ltb-true, not-true}
-use lib.Dec.{eqb, leb, ltb}
+use borrow.Author.Tests.{eqb-true, eqb-false, leb-true, not-true}
+use lib.Dec.{eqb, leb}
 use lib.ListN.{length}
 use Rattle.kinds.specs.declared.Kind.{Kind}
 use Rattle.kinds.specs.Kinds.{Row, table, rowIn, allows, lengthOk, judged, content}
@@ -84,13 +84,6 @@ content-usable id d h =
     let p = and-eq-true-iff (n 0x10) (n 0x03) .0 (q .0) in
     let other : (x : ℕ) → n x ≡ true → id ≡ x → ⊥ = λ x t e. eqb-false i x (not-true (eqb i x) t) (a .same ∙ e) in
     (other 0x10 (p .0), other 0x03 (p .1), other 0xFF (q .1))
-
--- each row's identifier is a byte
-pub content-byte : (id : ℕ) (d : List ℕ) → content id d ≡ 0 → id < 256
-unfolding table
-content-byte id d h =
-    let a = accepted (λ r. ltb (r .kind .id) 256) refl id d h in
-    omega (arith, ltb-true (a .row .kind .id) 256 (a .passed), a .same)
 
 -- the longest length of a kind
 abbrev longest : Kind → ℕ

@@ -1,7 +1,7 @@
 -- Laws of a kind that has one length: its length, and acceptance by its ranges alone.
 use mathlib.Core.Bool.{Bool, true, false, cond, _&&_, _||_}
 use mathlib.Core.List.{List}
-use mathlib.Core.Option.{Option, some}
+use mathlib.Core.Option.{some}
 use mathlib.Core.Path.{_≡_, refl, sym, ap, _∙_}
 use Prim.Native.Nat.{ℕ}
 use native.Mathlib.Omega.{arith}
@@ -9,7 +9,7 @@ use borrow.Author.Tests.{eqb-true}
 use lib.Dec.{eqb}
 use lib.ListN.{length}
 use Rattle.ranges.specs.Ranges.{byte, free, in43, in46, inEB}
-use Rattle.kinds.specs.Kinds.{Row, only, table, rowIn, allows, chosen49, lengthOk, judged, content, oneLength, lengthOf}
+use Rattle.kinds.specs.Kinds.{only, table, rowIn, allows, chosen49, lengthOk, judged, content, oneLength, lengthOf}
 
 module _ (id n : ℕ) (f : List ℕ → Bool) (row : rowIn table id ≡ some (only id n f)) (plain : eqb id 0x49 ≡ false) where
   -- what the row answers, by whether the length is the row's

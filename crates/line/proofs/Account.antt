@@ -11,7 +11,7 @@ use Rattle.stuffing.proofs.StuffingLaws.{stuffed-nil}
 use Rattle.line.specs.Frame.{Mode, Class, classOf, judge}
 use Rattle.line.specs.Frame.Mode.{plain, summed}
 use Rattle.line.specs.Frame.Class.{dle, etx, sum, other}
-use Rattle.line.specs.Table.{State, Event, Step, capacity, pending, go, refuse, verdict, ends, join, row, next, after, events, skipped, total, accepts, refuses}
+use Rattle.line.specs.Table.{State, Step, capacity, pending, go, refuse, verdict, ends, join, row, next, after, events, skipped, total, accepts, refuses}
 use Rattle.line.specs.Table.State.{W, WD, F, FD, C0, C1, E, ED}
 use Rattle.line.proofs.Classes.{length-snoc}
 
@@ -23,9 +23,9 @@ cond-both P false x y p q = q
 abbrev pub Balanced : State → Step → Type 0
 Balanced s t = pending s + 1 ≡ pending (t .to) + accepts (t .event) + refuses (t .event) + t .outside
 
-joined : (s : State) (id : ℕ) (d : List ℕ) (b : ℕ) → pending s + 1 ≡ length (stuffed (d ++ (b ∷ []))) + 2
+concatenated : (s : State) (id : ℕ) (d : List ℕ) (b : ℕ) → pending s + 1 ≡ length (stuffed (d ++ (b ∷ []))) + 2
     → Balanced s (join id d b (pending s + 1))
-joined s id d b p =
+concatenated s id d b p =
     cond-both (Balanced s) (ltb (length d) capacity) (go (F id (d ++ (b ∷ [])))) (refuse 4 id (pending s + 1)) (omega arith)
     (omega arith)
 
@@ -49,10 +49,10 @@ balanced m WD b etx e = refl
 balanced m WD b sum e = refl
 balanced m WD b other e = omega (arith, no-data)
 balanced m (F id d) b dle e = omega arith
-balanced m (F id d) b etx e = joined (F id d) id d b (omega (arith, length-snoc d b etx e))
-balanced m (F id d) b sum e = joined (F id d) id d b (omega (arith, length-snoc d b sum e))
-balanced m (F id d) b other e = joined (F id d) id d b (omega (arith, length-snoc d b other e))
-balanced m (FD id d) b dle e = joined (FD id d) id d b (omega (arith, length-snoc d b dle e))
+balanced m (F id d) b etx e = concatenated (F id d) id d b (omega (arith, length-snoc d b etx e))
+balanced m (F id d) b sum e = concatenated (F id d) id d b (omega (arith, length-snoc d b sum e))
+balanced m (F id d) b other e = concatenated (F id d) id d b (omega (arith, length-snoc d b other e))
+balanced m (FD id d) b dle e = concatenated (FD id d) id d b (omega (arith, length-snoc d b dle e))
 balanced plain (FD id d) b etx e = ended (FD id d) (judge plain id d 0 0) id d
 balanced summed (FD id d) b etx e = omega arith
 balanced plain (FD id d) b sum e = omega arith

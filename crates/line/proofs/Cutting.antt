@@ -1,10 +1,10 @@
--- The pieces: joined they are the bytes, in order they are the events, and an accepted one is a frame.
+-- The pieces: concatenated they are the bytes, in order they are the events, and an accepted one is a frame.
 use mathlib.Core.Bool.{Bool, true, false, cond, _&&_}
 use mathlib.Core.List.{List, [], _∷_, _++_, append-assoc, append-nil}
-use mathlib.Core.Path.{_≡_, refl, sym, ap, _∙_, subst, subst⁻¹}
+use mathlib.Core.Path.{_≡_, refl, sym, ap, _∙_, subst}
 use Prim.Native.Nat.{ℕ, _+_, _≤_}
 use native.Mathlib.Omega.{arith}
-use borrow.Author.Tests.{eqb-true, eqb-false}
+use borrow.Author.Tests.{eqb-true}
 use lib.Dec.{eqb, ltb}
 use lib.ListN.{length, take, drop, length-append, take-append-drop, drop-of-length-le}
 use lib.Seq.{append-snoc, drop-at, length-take-le, take-all}
@@ -12,17 +12,17 @@ use Rattle.stuffing.specs.Stuffing.{DLE, stuffed}
 use Rattle.stuffing.proofs.StuffingLaws.{stuffed-nil}
 use Rattle.checksum.specs.Checksum.{c1Of, c2Of}
 use Rattle.kinds.specs.Kinds.{content}
-use Rattle.line.specs.Frame.{ETX, SUM, Mode, Class, classOf, frame, agrees, judge}
+use Rattle.line.specs.Frame.{SUM, Mode, Class, classOf, frame, agrees, judge}
 use Rattle.line.specs.Frame.Mode.{plain, summed}
 use Rattle.line.specs.Frame.Class.{dle, etx, sum, other}
-use Rattle.line.specs.Table.{State, Event, Step, capacity, byEvent, pending, go, skip, refuse, reopen, verdict, ends, join, row, next, after, events, skipped, total, accepts, refuses}
+use Rattle.line.specs.Table.{State, Event, Step, capacity, byEvent, pending, go, refuse, verdict, ends, join, row, next, after, events, skipped, total, accepts, refuses}
 use Rattle.line.specs.Table.State.{W, WD, F, FD, C0, C1, E, ED}
 use Rattle.line.specs.Table.Event.{nothing, message, refusal}
-use Rattle.line.specs.Pieces.{Piece, bytesIn, joined, closes, pieceOf, closed, heldAfter, pieces, eventIn, eventsIn, raised, Framed, AllFramed, outsideIn, acceptedIn, refusedIn, pendingIn, sumOf, Cut}
+use Rattle.line.specs.Pieces.{Piece, bytesIn, concatenated, closes, pieceOf, closed, heldAfter, eventIn, eventsIn, raised, AllFramed, outsideIn, acceptedIn, refusedIn, pendingIn, sumOf}
 use Rattle.line.specs.Pieces.Piece.{outside, accepted, refused}
 use Rattle.line.proofs.Classes.{dle-is, etx-is, sum-is, doubled, stuffed-snoc}
 use Rattle.line.proofs.Account.{cond-both, balanced}
-use Rattle.line.proofs.Mirror.{W-ok, sound}
+use Rattle.line.proofs.Mirror.{sound}
 use Rattle.line.specs.Record.{PlaceOk}
 
 -- the bytes of the open frame
@@ -253,7 +253,7 @@ framed m (ED id d c1 c2) b sum e h = (tt, tt)
 framed m (ED id d c1 c2) b other e h = (tt, tt)
 
 -- what one step cuts off, of any step and any bytes
-piece-joins : (t : Step) (l : List ℕ) → joined (pieceOf t l) ++ drop (closes t) l ≡ l
+piece-joins : (t : Step) (l : List ℕ) → concatenated (pieceOf t l) ++ drop (closes t) l ≡ l
 piece-joins t l = by (t .event) (eqb (t .outside) 0) refl
   where
     n : Event → ℕ
@@ -263,7 +263,7 @@ piece-joins t l = by (t .event) (eqb (t .outside) 0) refl
     cut k = ap (λ p. p ++ drop k l) (append-nil (take k l)) ∙ take-append-drop k l
 
     by : (e : Event) (z : Bool) → eqb (t .outside) 0 ≡ z
-        → joined
+        → concatenated
         (byEvent e (cond z [] (outside (take (n e) l) ∷ [])) (λ id d k. accepted id d (take (n e) l) ∷ [])
         (λ v id k. refused v id (take (n e) l) ∷ [])) ++ drop (n e) l ≡ l
     by nothing true q =
@@ -273,17 +273,17 @@ piece-joins t l = by (t .event) (eqb (t .outside) 0) refl
     by (message id d k) z q = cut (n (message id d k))
     by (refusal v id k) z q = cut (n (refusal v id k))
 
-pub joined-append : (xs ys : List Piece) → joined (xs ++ ys) ≡ joined xs ++ joined ys
+pub joined-append : (xs ys : List Piece) → concatenated (xs ++ ys) ≡ concatenated xs ++ concatenated ys
 joined-append [] ys = refl
-joined-append (x ∷ xs) ys = ap (λ l. bytesIn x ++ l) (joined-append xs ys) ∙ sym (append-assoc (bytesIn x) (joined xs) (joined ys))
+joined-append (x ∷ xs) ys = ap (λ l. bytesIn x ++ l) (joined-append xs ys) ∙ sym (append-assoc (bytesIn x) (concatenated xs) (concatenated ys))
 
-pub closed-joins : (m : Mode) (s : State) (h bs : List ℕ) → joined (closed m s h bs) ++ heldAfter m s h bs ≡ h ++ bs
+pub closed-joins : (m : Mode) (s : State) (h bs : List ℕ) → concatenated (closed m s h bs) ++ heldAfter m s h bs ≡ h ++ bs
 closed-joins m s h [] = sym (append-nil h)
 closed-joins m s h (b ∷ bs) =
     ap (λ l. l ++ heldAfter m (t .to) left bs) (joined-append (pieceOf t all) (closed m (t .to) left bs))
-    ∙ append-assoc (joined (pieceOf t all)) (joined (closed m (t .to) left bs)) (heldAfter m (t .to) left bs)
-    ∙ ap (λ l. joined (pieceOf t all) ++ l) (closed-joins m (t .to) left bs)
-    ∙ sym (append-assoc (joined (pieceOf t all)) left bs)
+    ∙ append-assoc (concatenated (pieceOf t all)) (concatenated (closed m (t .to) left bs)) (heldAfter m (t .to) left bs)
+    ∙ ap (λ l. concatenated (pieceOf t all) ++ l) (closed-joins m (t .to) left bs)
+    ∙ sym (append-assoc (concatenated (pieceOf t all)) left bs)
     ∙ ap (λ l. l ++ bs) (piece-joins t all)
     ∙ append-snoc h b bs
   where

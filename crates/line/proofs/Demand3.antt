@@ -1,30 +1,29 @@
 -- Demand 3, of every list of calls.
 use mathlib.Core.List.{List, [], _∷_, _++_, append-assoc, append-nil}
-use mathlib.Core.Option.{Option, none, some}
 use mathlib.Core.Path.{_≡_, refl, sym, ap, _∙_, subst}
 use Prim.Native.Nat.{ℕ, suc, _+_, _-_, _≤_, _<_}
 use native.Mathlib.Omega.{arith}
 use lib.ListN.{length, take, getD, length-append, replicate, length-replicate, getD-replicate, List·getD-append}
 use lib.Seq.{getD-at}
 use Rattle.line.specs.Frame.{Mode, modeOf}
-use Rattle.line.specs.Table.{State, Event, pending, after, events, skipped, accepts, refuses}
+use Rattle.line.specs.Table.{Event, pending, after, events, refuses}
 use Rattle.line.specs.Table.State.{W}
-use Rattle.line.specs.Table.Event.{nothing, message, refusal}
+use Rattle.line.specs.Table.Event.{nothing, message}
 use Rattle.line.specs.Record.{Rec, Kept, limit}
-use Rattle.line.specs.Calls.{Call, History, Trace, taken, offered, Right, Every, added, frameLength, Message, line, frames, Delivers, Demand3}
+use Rattle.line.specs.Calls.{History, Trace, taken, offered, Right, Every, frameLength, Message, line, frames, Delivers, Demand3}
 use Rattle.line.specs.Calls.History.{start, call}
 use Rattle.line.proofs.Account.{conserved}
 use Rattle.line.proofs.Reading.{front, front-length, read-events, length-events}
 use Rattle.line.proofs.Resync.{after-append}
 use Rattle.line.proofs.Mirror.{W-ok}
 use Rattle.line.proofs.Each.{So-far, so-far}
-use Rattle.line.proofs.Heard.{Said, right-said, said-before, said-last, shorter, sums, stands, lengths, at-after, at-front, frames-leave}
+use Rattle.line.proofs.Answering.{Answers, right-answers, answers-before, answers-last, shorter, sums, stands, lengths, at-after, at-front, frames-leave}
 use Rattle.line.proofs.Latest.{stored, latest-to, latest-from, absent-to, absent-from}
 
 -- the events at the bytes of the frame of x, which is the bytes from number first of all
 pub record Read (m : Mode) (x : Message) (first : ℕ) (all : List ℕ) : Type 0 where
   pub quiet : (j : ℕ) → suc j < length (line m x) → getD (events m W all) (first + j) nothing ≡ nothing
-  pub told : (j : ℕ) → suc j ≡ length (line m x)
+  pub lastEvent : (j : ℕ) → suc j ≡ length (line m x)
       → getD (events m W all) (first + j) nothing ≡ message (x .id) (x .body) (length (line m x))
 
 read : (m : Mode) (x : Message) (p rest : List ℕ) → after m W p ≡ W → Read m x (length p) (p ++ (line m x ++ rest))
@@ -34,7 +33,7 @@ read m x p rest e =
           at j
           ∙ List·getD-append q (g ∷ events m W rest) nothing j (simp length-replicate (omega (arith, fl)))
           ∙ getD-replicate n j nothing nothing (omega (arith, fl));
-      told = λ j h. at j ∙ getD-at q g (events m W rest) nothing j (length-replicate n nothing ∙ omega (arith, fl));
+      lastEvent = λ j h. at j ∙ getD-at q g (events m W rest) nothing j (length-replicate n nothing ∙ omega (arith, fl));
     }
   where
     n : ℕ
@@ -76,7 +75,7 @@ module _ (m : Mode) (x : Message) (first : ℕ) (all : List ℕ) (rd : Read m x 
       record {
         ends = λ p q. there p q;
         gives = λ p q.
-            sym (final (n - 1) (omega arith)) ∙ ap at (omega (arith, there p q, len-pos)) ∙ rd .told (len - 1) (omega (arith, len-pos));
+            sym (final (n - 1) (omega arith)) ∙ ap at (omega (arith, there p q, len-pos)) ∙ rd .lastEvent (len - 1) (omega (arith, len-pos));
         elsewhere = λ z p q.
             sym (final (n - 1) (omega arith)) ∙ ap at (omega arith) ∙ rd .quiet (lb + n - 1 - first) (omega arith);
       }
@@ -90,8 +89,8 @@ module _ (m : Mode) (x : Message) (first : ℕ) (all : List ℕ) (rd : Read m x 
       lt : length t ≡ n
       lt = ap length (r .takes) ∙ sym (r .counts)
 
-      s : Said (events m (after m W before) t) a
-      s = right-said m before bs n a l r
+      s : Answers (events m (after m W before) t) a
+      s = right-answers m before bs n a l r
 
       lev : length (events m (after m W before) t) ≡ n
       lev = length-events m (after m W before) t ∙ lt
@@ -103,10 +102,10 @@ module _ (m : Mode) (x : Message) (first : ℕ) (all : List ℕ) (rd : Read m x 
           ∙ at-front m (after m W before) t rest i (omega (arith, lt))
 
       final : (i : ℕ) → suc i ≡ n → at (lb + i) ≡ a
-      final i h = here i (omega arith) ∙ said-last s i (omega (arith, lev))
+      final i h = here i (omega arith) ∙ answers-last s i (omega (arith, lev))
 
       earlier : (i : ℕ) → suc i < n → at (lb + i) ≡ nothing
-      earlier i h = here i (omega arith) ∙ said-before s i (omega (arith, lev))
+      earlier i h = here i (omega arith) ∙ answers-before s i (omega (arith, lev))
 
       there : lb < first + len → first + len ≤ lb + n → lb + n ≡ first + len
       there p q = omega (arith, not-past)
@@ -115,7 +114,7 @@ module _ (m : Mode) (x : Message) (first : ℕ) (all : List ℕ) (rd : Read m x 
           not-past w =
               never (at (first + (len - 1))) _ _ _
               (ap at (omega (arith, len-pos)) ∙ earlier (first + len - 1 - lb) (omega (arith, len-pos)))
-              (rd .told (len - 1) (omega (arith, len-pos)))
+              (rd .lastEvent (len - 1) (omega (arith, len-pos)))
 
   every : (h : History) (rest : List ℕ) → all ≡ taken h ++ rest → length (taken h) ≤ limit → Every (Right m) h
       → Every (Delivers m x first) h

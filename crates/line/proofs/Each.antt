@@ -12,14 +12,14 @@ use Rattle.line.specs.Frame.{Mode, modeOf, classOf}
 use Rattle.line.specs.Table.{State, Event, next, after, events}
 use Rattle.line.specs.Table.State.{W}
 use Rattle.line.specs.Table.Event.{nothing, message, refusal}
-use Rattle.line.specs.Record.{Rec, Result, Fresh, limit, walk, fresh, StepPost, FeedPost, PlaceOk}
+use Rattle.line.specs.Record.{Rec, Result, limit, walk, fresh, StepPost, FeedPost, PlaceOk}
 use Rattle.line.specs.Record.Fresh.{made, refused}
-use Rattle.line.specs.Calls.{Call, History, Trace, taken, offered, told, last, due, ifNothing, number, stepTook, Right, Every}
+use Rattle.line.specs.Calls.{Call, History, Trace, taken, offered, lastEvent, last, due, ifNothing, number, stepTook, Right, Every}
 use Rattle.line.specs.Calls.Call.{step, feed}
 use Rattle.line.specs.Calls.History.{start, call}
 use Rattle.line.specs.Calls.Trace.{begun, stepped, fed}
 use Rattle.line.proofs.Mirror.{W-ok, mirror, is-possible, Fine, sound, place-ok}
-use Rattle.line.proofs.Walking.{heard, told-append, Walked, walked}
+use Rattle.line.proofs.Walking.{eventAfter, last-event-append, Walked, walked}
 use Rattle.line.proofs.Outcome.{full, outcome, Is, feed-outcome, step-outcome}
 
 fine-last : (m : Mode) (s : State) (t : List ℕ) (e : Event) → PlaceOk m s → Fine m e → Fine m (last e (events m s t))
@@ -36,7 +36,7 @@ fine-number m (refusal v i n) f h = f
 due-limit : (m : Mode) (bs before : List ℕ) → length before ≤ limit → length (before ++ due m before bs) ≤ limit
 due-limit m [] before h = rw append-nil h
 due-limit m (b ∷ bs) before h =
-    by (ltb (length before) limit) refl (told m (before ++ (b ∷ []))) (λ g. due-limit m bs (before ++ (b ∷ [])) g)
+    by (ltb (length before) limit) refl (lastEvent m (before ++ (b ∷ []))) (λ g. due-limit m bs (before ++ (b ∷ [])) g)
   where
     t : List ℕ
     t = due m (before ++ (b ∷ [])) bs
@@ -53,7 +53,7 @@ due-limit m (b ∷ bs) before h =
 -- a call that takes its first byte
 taking-right : (m : Mode) (before : List ℕ) (b : ℕ) (bs : List ℕ) (n : ℕ) (t : List ℕ) (a : Event) → length before < limit
     → take n (b ∷ bs) ≡ due m before (b ∷ bs) → n ≡ length (due m before (b ∷ bs)) → take n (b ∷ bs) ≡ b ∷ t
-    → a ≡ heard m before (take n (b ∷ bs)) → Right m before (b ∷ bs) n a
+    → a ≡ eventAfter m before (take n (b ∷ bs)) → Right m before (b ∷ bs) n a
 taking-right m before b bs n t a l d k c e =
     record {
       not-1 = λ q. omega (arith, high (omega arith));
@@ -62,7 +62,7 @@ taking-right m before b bs n t a l d k c e =
       full = λ q g. absurd (omega arith);
       takes = d;
       counts = k;
-      answers = λ g. e ∙ ap (heard m before) c ∙ sym (told-append m before b t) ∙ ap (λ u. told m (before ++ u)) (sym c);
+      answers = λ g. e ∙ ap (eventAfter m before) c ∙ sym (last-event-append m before b t) ∙ ap (λ u. lastEvent m (before ++ u)) (sym c);
       empty = λ q. cc;
     }
   where
@@ -106,14 +106,14 @@ makes m (b ∷ bs) before h = by (ltb (length before) limit) refl
     w = walked m (b ∷ bs) before
 
     t : List ℕ
-    t = ifNothing (told M (before ++ (b ∷ []))) (due M (before ++ (b ∷ [])) bs)
+    t = ifNothing (lastEvent M (before ++ (b ∷ []))) (due M (before ++ (b ∷ [])) bs)
 
     by : (c : Bool) → ltb (length before) limit ≡ c → Made m before (b ∷ bs) (cond c x (full (mirror m before)))
     by true q =
         record {
           right =
               taking-right M before b bs (x .taken) t (x .answer) (ltb-true (length before) limit q) (w .takes) (w .counts)
-              (w .takes ∙ ap (λ c. cond c (b ∷ t) []) q) (w .answer ∙ ap (heard M before) (sym (w .takes)));
+              (w .takes ∙ ap (λ c. cond c (b ∷ t) []) q) (w .answer ∙ ap (eventAfter M before) (sym (w .takes)));
           after = w .after ∙ ap (λ u. mirror m (before ++ u)) (sym (w .takes));
           within = rw (w .takes) (due-limit M (b ∷ bs) before h);
         }

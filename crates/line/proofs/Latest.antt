@@ -1,14 +1,12 @@
 -- What the updates store is the last message of its kind that an answer gave.
 use mathlib.Core.Bool.{Bool, true, false}
 use mathlib.Core.List.{List}
-use mathlib.Core.Logic.{_↔_, _⊎_, inl, inr}
 use mathlib.Core.Option.{Option, none, some}
-use mathlib.Core.Path.{_≡_, refl, sym, ap, _∙_, subst}
+use mathlib.Core.Path.{_≡_, refl, sym, ap, _∙_}
 use Prim.Native.Nat.{ℕ}
 use native.Mathlib.Omega.{arith}
 use borrow.Author.Tests.{eqb-true, eqb-false, eq-eqb, ne-eqb}
 use lib.Dec.{eqb}
-use Rattle.line.specs.Table.{Event}
 use Rattle.line.specs.Table.Event.{nothing, message, refusal}
 use Rattle.line.specs.Record.{Kept, idOf, replaced, update}
 use Rattle.line.specs.Calls.{Call, History, LastGiven, Gives, Every}

@@ -7,7 +7,7 @@ pub mod Mirror
 pub mod Walking
 pub mod Outcome
 pub mod Each
-pub mod Heard
+pub mod Answering
 pub mod Demand3
 pub mod Runs
 pub mod SliceSteps

@@ -5,13 +5,12 @@ use Prim.Native.Nat.{ℕ, _+_, _≤_}
 use native.Mathlib.Omega.{arith}
 use lib.ListN.{length, take, drop, drop-of-length-le}
 use lib.Seq.{append-snoc, take-all}
-use Rattle.line.specs.Frame.{ETX, Mode, modeOf, frame, Acceptable}
-use Rattle.line.specs.Table.{State, Event, Step, pending, go, next, after, events}
+use Rattle.line.specs.Frame.{ETX, Mode, modeOf}
+use Rattle.line.specs.Table.{State, Step, pending, next, after, events}
 use Rattle.line.specs.Table.State.{W}
-use Rattle.line.specs.Table.Event.{message}
 use Rattle.line.specs.Record.{Rec}
 use Rattle.line.specs.Calls.{History, Trace, taken, Message, line, frames}
-use Rattle.line.specs.Pieces.{Piece, joined, closes, pieceOf, closed, heldAfter, pieces, eventsIn, raised, outsideIn, acceptedIn, refusedIn, pendingIn, sumOf, Cut, Counted, whole, Between}
+use Rattle.line.specs.Pieces.{Piece, concatenated, closes, pieceOf, closed, heldAfter, pieces, eventsIn, outsideIn, acceptedIn, refusedIn, pendingIn, sumOf, Cut, Counted, whole, Between}
 use Rattle.line.specs.Pieces.Piece.{pending as left, accepted}
 use Rattle.line.proofs.Reading.{Quiet, front, front-quiet, delivered, usable}
 use Rattle.line.proofs.Reading as Reading
@@ -24,7 +23,7 @@ pub cut : (m : Mode) (bs : List ℕ) → Cut m bs
 cut m bs =
     record {
       joins =
-          joined-append (closed m W [] bs) (left p ∷ []) ∙ ap (λ l. joined (closed m W [] bs) ++ l) (append-nil p) ∙ closed-joins m W [] bs;
+          joined-append (closed m W [] bs) (left p ∷ []) ∙ ap (λ l. concatenated (closed m W [] bs) ++ l) (append-nil p) ∙ closed-joins m W [] bs;
       events =
           eventsIn-append (closed m W [] bs) (left p ∷ []) ∙ append-nil (eventsIn (closed m W [] bs)) ∙ closed-events m W bs;
       framed = framed-append m (closed m W [] bs) (left p ∷ []) (closed-framed m W bs W-ok) (tt, tt);
@@ -151,7 +150,7 @@ pub between : (m : Mode) (noise : List ℕ) (one : Message) (more : List Message
 between m noise one more rest =
     record {
       front = closed m W [] p;
-      reaches = sym (append-nil (joined (closed m W [] p))) ∙ ap (λ l. joined (closed m W [] p) ++ l) (sym none) ∙ closed-joins m W [] p;
+      reaches = sym (append-nil (concatenated (closed m W [] p))) ∙ ap (λ l. concatenated (closed m W [] p) ++ l) (sym none) ∙ closed-joins m W [] p;
       follows =
           ap (pieces m) regroup ∙ to-W m p (frames m more ++ rest) waiting ∙ ap (λ l. closed m W [] p ++ l) (frames-pieces m more rest);
     }

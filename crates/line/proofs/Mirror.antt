@@ -1,15 +1,14 @@
 -- What the table keeps of question 2, and the record that mirrors the table after some bytes.
 use mathlib.Core.Bool.{Bool, true, false, cond}
 use mathlib.Core.List.{List, [], _∷_, _++_, append-nil}
-use mathlib.Core.Option.{Option, none, some}
-use mathlib.Core.Path.{_≡_, refl, sym, ap, _∙_, subst, subst⁻¹}
-use Prim.Native.Nat.{ℕ, _+_, _≤_, _<_}
+use mathlib.Core.Option.{Option, none}
+use mathlib.Core.Path.{_≡_, refl, sym, subst, subst⁻¹}
+use Prim.Native.Nat.{ℕ, _+_, _<_}
 use native.Mathlib.Omega.{arith}
 use borrow.Author.Tests.{ltb-true, eqb-true, eqb-false}
 use lib.Dec.{eqb, ltb, lit<}
 use lib.ListN.{length, length-append}
 use lib.Seq.{append-snoc}
-use Rattle.stuffing.specs.Stuffing.{stuffed}
 use Rattle.kinds.specs.Kinds.{content}
 use Rattle.kinds.proofs.ContentLaws.{content-number}
 use Rattle.line.specs.Frame.{Mode, Class, modeOf, classOf, frame, agrees, judge, Acceptable}
@@ -18,7 +17,7 @@ use Rattle.line.specs.Frame.Class.{dle, etx, sum, other}
 use Rattle.line.specs.Table.{State, Event, Step, capacity, pending, go, refuse, verdict, ends, join, row, next, after, events, skipped, total, accepts, refuses}
 use Rattle.line.specs.Table.State.{W, WD, F, FD, C0, C1, E, ED}
 use Rattle.line.specs.Table.Event.{nothing, message, refusal}
-use Rattle.line.specs.Record.{Rec, Kept, idOf, Place, ModeOk, IdOk, SizeOk, PlaceOk, Fit, Possible, update, stateOf, stepped}
+use Rattle.line.specs.Record.{Rec, Kept, idOf, ModeOk, IdOk, SizeOk, PlaceOk, Fit, Possible, update, stateOf, stepped}
 use Rattle.line.specs.Record.Kept.{k43, k46, k4A, k4B, kEB}
 use Rattle.line.specs.Record.Place.{at}
 use Rattle.line.proofs.Latest.{update-same, update-other}

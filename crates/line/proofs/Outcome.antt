@@ -2,14 +2,13 @@
 -- meets them.
 use mathlib.Core.Bool.{Bool, true, false, cond}
 use mathlib.Core.List.{List, [], _∷_}
-use mathlib.Core.Path.{_≡_, refl, sym, ap, _∙_}
-use Prim.Native.Nat.{ℕ, _≤_, _<_}
+use mathlib.Core.Path.{_≡_, refl, ap, _∙_}
+use Prim.Native.Nat.{ℕ, _≤_}
 use native.Mathlib.Omega.{arith}
 use borrow.Author.Tests.{ltb-true, ltb-false, lt-ltb, le-ltb, lt-leb}
-use lib.Dec.{ltb, leb}
-use lib.ListN.{length}
-use Rattle.line.specs.Frame.{Mode, modeOf, classOf}
-use Rattle.line.specs.Table.{State, Event, next}
+use lib.Dec.{ltb}
+use Rattle.line.specs.Frame.{modeOf, classOf}
+use Rattle.line.specs.Table.{Event}
 use Rattle.line.specs.Table.Event.{nothing, message, refusal}
 use Rattle.line.specs.Record.{Rec, Possible, Result, limit, stateOf, stepped, eventOf, orStop, oneMore, walk, StepPost, FeedPost}
 use Rattle.line.specs.Calls.{stepTook}

@@ -1,11 +1,9 @@
 -- The frame of an acceptable message, read while waiting: no event before its last byte, and the message there.
-use mathlib.Core.Bool.{cond}
 use mathlib.Core.List.{List, [], _∷_, _++_, append-assoc, append-nil}
 use mathlib.Core.Path.{_≡_, refl, ap, _∙_, subst⁻¹}
 use Prim.Native.Nat.{ℕ, suc, _+_, _≤_, _<_}
 use native.Mathlib.Omega.{arith}
 use borrow.Author.Tests.{lt-ltb, eq-eqb}
-use lib.Dec.{eqb}
 use lib.ListN.{length, length-append, replicate}
 use lib.Seq.{append-snoc}
 use Rattle.stuffing.specs.Stuffing.{DLE, stuffed}
@@ -17,7 +15,7 @@ use Rattle.line.specs.Frame.{ETX, Mode, Class, classOf, sumField, frame,
 use Rattle.line.specs.Frame.Mode.{plain, summed}
 use Rattle.line.specs.Frame.Class.{dle, etx, sum, other}
 use Rattle.line.specs.Table.{State, Event, Step, capacity, pending, go, verdict, ends, join, row, next, after, events}
-use Rattle.line.specs.Table.State.{W, WD, F, FD, C0, C1, E, ED}
+use Rattle.line.specs.Table.State.{W, WD, F, FD, ED}
 use Rattle.line.specs.Table.Event.{nothing, message}
 use Rattle.line.proofs.Classes.{class-dle, class-etx, class-other, doubled, stuffed-by}
 

@@ -10,7 +10,7 @@ use Rattle.checksum.specs.Checksum.{c1Of, c2Of}
 use Rattle.line.specs.Frame.{ETX, Mode, Class, classOf, sumField, frame}
 use Rattle.line.specs.Frame.Mode.{plain, summed}
 use Rattle.line.specs.Frame.Class.{dle, etx, sum, other}
-use Rattle.line.specs.Table.{State, Step, capacity, go, refuse, join, row, next, after}
+use Rattle.line.specs.Table.{State, capacity, go, refuse, join, row, next, after}
 use Rattle.line.specs.Table.State.{W, WD, F, FD, C0, C1, E, ED}
 use Rattle.line.proofs.Classes.{class-dle, doubled, stuffed-by}
 use Rattle.line.proofs.Account.{cond-both}

@@ -1,6 +1,6 @@
 -- Every list of calls on a fresh reader of mode 0 or 1 has a trace; and the accounts of two readers added still balance.
 use mathlib.Core.List.{List, [], _∷_, _++_, append-nil}
-use mathlib.Core.Path.{_≡_, refl, sym, ap, _∙_, subst, subst⁻¹}
+use mathlib.Core.Path.{_≡_, refl, ap, subst, subst⁻¹}
 use Prim.Native.Nat.{ℕ, _+_, _≤_}
 use native.Mathlib.Omega.{arith}
 use borrow.Author.Tests.{le-leb}
@@ -10,10 +10,10 @@ use Rattle.line.specs.Calls.{Call, History, Trace, taken, stepTook}
 use Rattle.line.specs.Calls.Call.{step, feed}
 use Rattle.line.specs.Calls.History.{start, call}
 use Rattle.line.specs.Calls.Trace.{begun, stepped, fed}
-use Rattle.line.specs.Steps.{callsOf, Run}
+use Rattle.line.specs.Steps.{Run}
 use Rattle.line.proofs.Mirror.{mirror, is-possible}
 use Rattle.line.proofs.Outcome.{outcome, feed-meets, step-meets}
-use Rattle.line.proofs.Each.{So-far, so-far}
+use Rattle.line.proofs.Each.{so-far}
 use Rattle.line.proofs.Demand3.{demand3}
 
 -- the record of a trace is possible, and of mode 0 or 1

@@ -2,21 +2,21 @@
 use mathlib.Core.Bool.{Bool, true, false, cond}
 use mathlib.Core.List.{List, [], _∷_}
 use mathlib.Core.Option.{Option, none, some}
-use mathlib.Core.Path.{_≡_, refl, sym, ap, _∙_, subst, subst⁻¹}
+use mathlib.Core.Path.{_≡_, refl, sym, ap, _∙_, subst}
 use Prim.Native.Nat.{ℕ, zero, suc, _+_, _≤_, _<_}
 use native.Mathlib.Omega.{arith}
-use borrow.Author.Tests.{ltb-true, ltb-false, leb-true, leb-false, eqb-true, eqb-false, lt-ltb}
+use borrow.Author.Tests.{ltb-true, ltb-false, leb-true, leb-false, eqb-true, eqb-false}
 use lib.Dec.{eqb, ltb, leb}
 use lib.ListN.{length, take}
 use lib.Seq.{length-take-le}
 use Rattle.kinds.specs.Kinds.{content}
-use Rattle.line.specs.Frame.{Mode, Class, modeOf, classOf, Acceptable}
+use Rattle.line.specs.Frame.{Mode, Class, modeOf, classOf}
 use Rattle.line.specs.Frame.Mode.{plain, summed}
 use Rattle.line.specs.Frame.Class.{dle, etx, sum, other}
 use Rattle.line.specs.Table.{State, Event, capacity, pending}
 use Rattle.line.specs.Table.State.{W, WD, F, FD, C0, C1, E, ED}
 use Rattle.line.specs.Table.Event.{nothing, message, refusal}
-use Rattle.line.specs.Record.{Rec, Place, Possible, Result, Known, Fit, FromF, limit, stateOf, byPlace, stepped, eventOf, orStop, oneMore, walk, StepPost, FeedPost, ModeOk, IdOk, SizeOk}
+use Rattle.line.specs.Record.{Rec, Place, Possible, Result, Known, Fit, limit, stateOf, byPlace, stepped, eventOf, orStop, oneMore, walk, StepPost, FeedPost}
 use Rattle.line.specs.Record.Place.{at, unknown}
 use Rattle.line.specs.Record.Kept.{k43, k46, k4A, k4B, kEB}
 use Rattle.line.specs.Steps.{Steps}

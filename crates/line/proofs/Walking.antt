@@ -7,11 +7,11 @@ use lib.Dec.{ltb}
 use lib.ListN.{length, take}
 use lib.Seq.{append-snoc}
 use Rattle.line.specs.Frame.{Mode, modeOf}
-use Rattle.line.specs.Table.{State, Event, next, after, events}
+use Rattle.line.specs.Table.{Event, next, after, events}
 use Rattle.line.specs.Table.State.{W}
 use Rattle.line.specs.Table.Event.{nothing, message, refusal}
-use Rattle.line.specs.Record.{Rec, Result, limit, stepped, eventOf, walk, orStop, oneMore}
-use Rattle.line.specs.Calls.{told, last, due, ifNothing}
+use Rattle.line.specs.Record.{Result, limit, stepped, eventOf, walk, orStop, oneMore}
+use Rattle.line.specs.Calls.{lastEvent, last, due, ifNothing}
 use Rattle.line.proofs.Reading.{events-append}
 use Rattle.line.proofs.Resync.{after-append}
 use Rattle.line.proofs.Mirror.{mirror, stepped-mirror}
@@ -21,17 +21,17 @@ last-append e [] y ys = refl
 last-append e (x ∷ xs) y ys = last-append x xs y ys
 
 -- the event of the last of t, read after the bytes before
-abbrev pub heard : Mode → List ℕ → List ℕ → Event
-heard m before t = last nothing (events m (after m W before) t)
+abbrev pub eventAfter : Mode → List ℕ → List ℕ → Event
+eventAfter m before t = last nothing (events m (after m W before) t)
 
-pub told-append : (m : Mode) (before : List ℕ) (b : ℕ) (t : List ℕ) → told m (before ++ (b ∷ t)) ≡ heard m before (b ∷ t)
-told-append m before b t = ap (last nothing) (events-append m W before (b ∷ t)) ∙ last-append nothing (events m W before) _ _
+pub last-event-append : (m : Mode) (before : List ℕ) (b : ℕ) (t : List ℕ) → lastEvent m (before ++ (b ∷ t)) ≡ eventAfter m before (b ∷ t)
+last-event-append m before b t = ap (last nothing) (events-append m W before (b ∷ t)) ∙ last-append nothing (events m W before) _ _
 
 pub record Walked (m : ℕ) (before bs : List ℕ) (x : Result) (t : List ℕ) : Type 0 where
   pub takes : take (x .taken) bs ≡ t
   pub counts : x .taken ≡ length t
   pub after : x .after ≡ mirror m (before ++ t)
-  pub answer : x .answer ≡ heard (modeOf m) before t
+  pub answer : x .answer ≡ eventAfter (modeOf m) before t
 
 one : (m : ℕ) (before : List ℕ) (b : ℕ) (bs : List ℕ) (x : Result) (t : List ℕ) (e : Event)
     → next (modeOf m) (after (modeOf m) W before) b .event ≡ e → Walked m (before ++ (b ∷ [])) bs x t → (c : Bool)
@@ -59,7 +59,7 @@ pub walked : (m : ℕ) (bs before : List ℕ) → Walked m before bs (walk (mirr
 walked m [] before = record { takes = refl; counts = refl; after = rw append-nil refl; answer = refl }
 walked m (b ∷ bs) before =
     subst⁻¹ (λ e. Walked m before (b ∷ bs) (walk (mirror m before) (b ∷ bs)) (cond (ltb (length before) limit) (b ∷ ifNothing e t) []))
-    (told-append (modeOf m) before b [])
+    (last-event-append (modeOf m) before b [])
     (one m before b bs (walk (stepped (mirror m before) b) bs) t (eventOf (mirror m before) b) refl
     (subst⁻¹ (λ r. Walked m (before ++ (b ∷ [])) bs (walk r bs) t) (stepped-mirror m before b) (walked m bs (before ++ (b ∷ []))))
     (ltb (length before) limit))

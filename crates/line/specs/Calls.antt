@@ -1,17 +1,17 @@
 -- Document 01, "Demand 3, over a list of calls".
 use mathlib.Core.Bool.{cond}
 use mathlib.Core.List.{List, [], _∷_, _++_}
-use mathlib.Core.Option.{Option, none, some}
+use mathlib.Core.Option.{none, some}
 use mathlib.Core.Logic.{_↔_}
 use mathlib.Core.Path.{_≡_}
 use Prim.Native.Nat.{ℕ, _+_, _≤_, _<_}
 use lib.Dec.{leb, ltb}
 use lib.ListN.{length, take}
 use Rattle.line.specs.Frame.{Mode, modeOf, frame, Acceptable}
-use Rattle.line.specs.Table.{State, Event, byEvent, pending, after, events, skipped, refuses}
+use Rattle.line.specs.Table.{Event, byEvent, pending, after, events, skipped, refuses}
 use Rattle.line.specs.Table.State.{W}
 use Rattle.line.specs.Table.Event.{nothing, message, refusal}
-use Rattle.line.specs.Record.{Rec, Kept, idOf, limit, StepPost, FeedPost, Fresh, fresh}
+use Rattle.line.specs.Record.{Rec, Kept, idOf, limit, StepPost, FeedPost, fresh}
 use Rattle.line.specs.Record.Fresh.{made}
 
 pub data Call : Type 0 where
@@ -52,8 +52,8 @@ abbrev pub last : Event → List Event → Event
 last e [] = e
 last e (x ∷ xs) = last x xs
 
-abbrev pub told : Mode → List ℕ → Event
-told m bs = last nothing (events m W bs)
+abbrev pub lastEvent : Mode → List ℕ → Event
+lastEvent m bs = last nothing (events m W bs)
 
 abbrev pub ifNothing : Event → List ℕ → List ℕ
 ifNothing e more = byEvent e more (λ id d n. []) (λ v id n. [])
@@ -62,7 +62,7 @@ ifNothing e more = byEvent e more (λ id d n. []) (λ v id n. [])
 abbrev pub due : Mode → List ℕ → List ℕ → List ℕ
 due m before [] = []
 due m before (b ∷ bs) =
-    cond (ltb (length before) limit) (b ∷ ifNothing (told m (before ++ (b ∷ []))) (due m (before ++ (b ∷ [])) bs)) []
+    cond (ltb (length before) limit) (b ∷ ifNothing (lastEvent m (before ++ (b ∷ []))) (due m (before ++ (b ∷ [])) bs)) []
 
 -- one call: before, the bytes taken before it; bs, those offered; n, how many it took; a, its answer
 pub record Right (m : Mode) (before bs : List ℕ) (n : ℕ) (a : Event) : Type 0 where
@@ -76,7 +76,7 @@ pub record Right (m : Mode) (before bs : List ℕ) (n : ℕ) (a : Event) : Type 
   pub takes : take n bs ≡ due m before bs
   pub counts : n ≡ length (due m before bs)
   -- a call that takes bytes answers what the table, given only the bytes taken, has at the last one
-  pub answers : 0 < n → a ≡ told m (before ++ take n bs)
+  pub answers : 0 < n → a ≡ lastEvent m (before ++ take n bs)
   -- an empty slice gives "nothing yet"
   pub empty : bs ≡ [] → a ≡ nothing
 

@@ -5,7 +5,7 @@ use mathlib.Core.Path.{_≡_}
 use Prim.Native.Nat.{ℕ, suc}
 use lib.ListN.{replicate}
 use Rattle.line.specs.Frame.{Mode}
-use Rattle.line.specs.Table.{State, Event, byEvent, pending, after, events, skipped, total, accepts, refuses}
+use Rattle.line.specs.Table.{Event, byEvent, pending, after, events, skipped, total, accepts, refuses}
 use Rattle.line.specs.Table.State.{W}
 use Rattle.line.specs.Table.Event.{nothing, message, refusal}
 use Rattle.line.specs.Record.{Rec, Place, StepPost, FeedPost, fresh}

@@ -5,10 +5,10 @@ use mathlib.Core.Path.{_≡_}
 use Prim.Native.Nat.{ℕ, _+_}
 use lib.Dec.{eqb}
 use lib.ListN.{length, take, drop}
-use Rattle.line.specs.Frame.{Mode, modeOf, frame}
+use Rattle.line.specs.Frame.{Mode, frame}
 use Rattle.line.specs.Table.{State, Event, Step, byEvent, next, accepts, refuses, events}
 use Rattle.line.specs.Table.State.{W}
-use Rattle.line.specs.Table.Event.{nothing, message, refusal}
+use Rattle.line.specs.Table.Event.{message, refusal}
 use Rattle.line.specs.Record.{Rec}
 use Rattle.line.specs.Calls.{Message, line, frames}
 
@@ -29,9 +29,9 @@ byPiece (pending p) f g h k = k p
 abbrev pub bytesIn : Piece → List ℕ
 bytesIn x = byPiece x (λ p. p) (λ id d p. p) (λ v id p. p) (λ p. p)
 
-abbrev pub joined : List Piece → List ℕ
-joined [] = []
-joined (x ∷ xs) = bytesIn x ++ joined xs
+abbrev pub concatenated : List Piece → List ℕ
+concatenated [] = []
+concatenated (x ∷ xs) = bytesIn x ++ concatenated xs
 
 -- how many bytes a step closes
 abbrev pub closes : Step → ℕ
@@ -98,8 +98,8 @@ sumOf f (x ∷ xs) = f x + sumOf f xs
 
 -- what holds of the pieces of any bytes
 pub record Cut (m : Mode) (bs : List ℕ) : Type 0 where
-  -- the pieces joined are exactly the bytes: every byte lies in exactly one
-  pub joins : joined (pieces m bs) ≡ bs
+  -- the pieces concatenated are exactly the bytes: every byte lies in exactly one
+  pub joins : concatenated (pieces m bs) ≡ bs
   -- the accepted and refused pieces, in order, are the events, each with as many bytes as its event closed
   pub events : eventsIn (pieces m bs) ≡ raised (events m W bs)
   -- an accepted piece's bytes are the frame of its message
@@ -118,5 +118,5 @@ whole m x = accepted (x .id) (x .body) (line m x)
 
 pub record Between (m : Mode) (noise : List ℕ) (one : Message) (more : List Message) (rest : List ℕ) : Type 0 where
   pub front : List Piece
-  pub reaches : joined front ≡ noise ++ line m one
+  pub reaches : concatenated front ≡ noise ++ line m one
   pub follows : pieces m (noise ++ (frames m (one ∷ more) ++ rest)) ≡ front ++ (map (whole m) more ++ pieces m rest)

@@ -14,8 +14,8 @@ use fields_43::Outcome;
 use fields_46::Time;
 use fields_49::Glonass;
 use fields_49::Gps;
-use fields_eb::GlonassTime;
 use fields_byte::OneByte;
+use fields_eb::GlonassTime;
 use octets::Written;
 
 fn number(n: u64) {

@@ -50,11 +50,6 @@ signed-is w b =
     go true = refl
     go false = ap negsuc (omega arith)
 
-pub unsigned-is : (w : Width) (z : ℤ) → unsigned (bits w) z ≡ ofZ w z
-unfolding unsigned
-unsigned-is w (pos x) = refl
-unsigned-is w (negsuc x) = omega arith
-
 -- -1 less a number
 minus-pos : (x : ℕ) → negsuc 0 -ℤ pos x ≡ negsuc x
 minus-pos zero = refl

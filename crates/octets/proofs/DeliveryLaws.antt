@@ -18,11 +18,6 @@ use Rattle.octets.specs.Delivery.{refused, accepted, writtenOf, filledOf
 pub placed-back : (b t : List ℕ) → length t ≤ length b → take (length t) (placed b 0 t) ≡ t
 placed-back b t h = ap (take (length t)) (placed-start b t h) ∙ take-at t (drop (length t) b) (length t) refl
 
--- where a call first asks something else, what it accepts has a yes
-pub asked : (t : Bool) (w : Written) (v : ℕ) → (v ≡ 0 → ⊥) → cond t w (refused v) .refusal ≡ 0 → (t ≡ true) × (w .refusal ≡ 0)
-asked true w v n z = (refl, z)
-asked false w v n z = absurd (n z)
-
 module _ (v : ℕ) (t b : List ℕ) where
   -- refused by v
   pub refuses : (v ≡ 0 → ⊥) → (writtenOf v t b ≡ refused v) × (filledOf v t b ≡ b)

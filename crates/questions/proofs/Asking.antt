@@ -17,7 +17,7 @@ use Rattle.line.specs.Frame.Class.{other}
 use Rattle.line.specs.Table.{pending}
 use Rattle.line.specs.Record.{Place, Known, Fit, Possible, stateOf, PlaceOk}
 use Rattle.line.specs.Record.Place.{unknown}
-use Rattle.record.specs.View.{placeOf, dataOf, view}
+use Rattle.record.specs.View.{placeOf, firstBytes, view}
 use Rattle.latest.specs.Latest.{perhaps, LatestOk}
 use Rattle.questions.specs.Question.{Opened, Plausible, Held}
 use Rattle.record.specs.declared.Reader.{Reader}
@@ -148,7 +148,7 @@ free-4B false d e = tt
 module _ (r : Reader) where
   abbrev pub Placed : Type 0
   Placed =
-      Clauses (modeOf (r .head .mode)) (placeOf (r .head .place) (r .head .id) (dataOf (r .head .len) (r .bytes)) (r .head .c1) (r .head .c2))
+      Clauses (modeOf (r .head .mode)) (placeOf (r .head .place) (r .head .id) (firstBytes (r .head .len) (r .bytes)) (r .head .c1) (r .head .c2))
       (r .head .pending)
 
   pub to-possible : Placed → r .head .fed ≡ r .head .accepted + r .head .refused + r .head .outside + r .head .pending → LatestOk (r .latest)
@@ -173,8 +173,8 @@ module _ (r : Reader) where
       record { place = p .place; ok = record { mode = p .mode; identifier = p .identifier; size = p .size }; pending = p .pending }
 
   -- an open frame, as the code asks
-  pub asks-open : (d : List ℕ) → dataOf (r .head .len) (r .bytes) ≡ d → Opened (r .head) → r .head .pending ≡ r .head .place + (r .head .len + dles d)
-      → Asks (modeOf (r .head .mode)) (r .head .place) (r .head .id) (dataOf (r .head .len) (r .bytes)) (r .head .pending)
+  pub asks-open : (d : List ℕ) → firstBytes (r .head .len) (r .bytes) ≡ d → Opened (r .head) → r .head .pending ≡ r .head .place + (r .head .len + dles d)
+      → Asks (modeOf (r .head .mode)) (r .head .place) (r .head .id) (firstBytes (r .head .len) (r .bytes)) (r .head .pending)
   asks-open d e o h =
       record {
         known = o .known;
@@ -188,7 +188,7 @@ module _ (r : Reader) where
       zero-mode Prim.Native.Nat.ℕ.zero q = refl
       zero-mode (suc n) q = let z : _≡_ {A = ℕ} 0 1 = cc in absurd (omega arith)
 
-  pub opened-asks : Asks (modeOf (r .head .mode)) (r .head .place) (r .head .id) (dataOf (r .head .len) (r .bytes)) (r .head .pending) → Opened (r .head)
+  pub opened-asks : Asks (modeOf (r .head .mode)) (r .head .place) (r .head .id) (firstBytes (r .head .len) (r .bytes)) (r .head .pending) → Opened (r .head)
   opened-asks a =
       record {
         known = a .known;
@@ -202,7 +202,7 @@ module _ (r : Reader) where
       → Possible (view r)
   possible-low p l a b =
       to-possible
-      (low-clauses (modeOf (r .head .mode)) (r .head .place) (r .head .id) (dataOf (r .head .len) (r .bytes)) (r .head .c1) (r .head .c2) (r .head .pending) l (p .low l))
+      (low-clauses (modeOf (r .head .mode)) (r .head .place) (r .head .id) (firstBytes (r .head .len) (r .bytes)) (r .head .c1) (r .head .c2) (r .head .pending) l (p .low l))
       (p .fed) (p .latest) a b
 
   pub possible-open : Plausible (r .head) (r .latest) → 2 ≤ r .head .place → Held (r .head) (r .bytes) → length (r .bytes) ≡ 1024
@@ -211,14 +211,14 @@ module _ (r : Reader) where
       let o = p .opened l in
       let t = data-take (r .head .len) (r .bytes) (omega (arith, o .short)) in
       to-possible
-      (open-clauses (modeOf (r .head .mode)) (r .head .place) (r .head .id) (dataOf (r .head .len) (r .bytes)) (r .head .c1) (r .head .c2) (r .head .pending) l
+      (open-clauses (modeOf (r .head .mode)) (r .head .place) (r .head .id) (firstBytes (r .head .len) (r .bytes)) (r .head .c1) (r .head .c2) (r .head .pending) l
       (asks-open (take (r .head .len) (r .bytes)) t o h))
       (p .fed) (p .latest) a b
 
   asked : Possible (view r) → 2 ≤ r .head .place
-      → Asks (modeOf (r .head .mode)) (r .head .place) (r .head .id) (dataOf (r .head .len) (r .bytes)) (r .head .pending)
+      → Asks (modeOf (r .head .mode)) (r .head .place) (r .head .id) (firstBytes (r .head .len) (r .bytes)) (r .head .pending)
   asked p l =
-      clauses-open (modeOf (r .head .mode)) (r .head .place) (r .head .id) (dataOf (r .head .len) (r .bytes)) (r .head .c1) (r .head .c2) (r .head .pending) l
+      clauses-open (modeOf (r .head .mode)) (r .head .place) (r .head .id) (firstBytes (r .head .len) (r .bytes)) (r .head .c1) (r .head .c2) (r .head .pending) l
       (of-possible p)
 
   pub plausible-of : Possible (view r) → Plausible (r .head) (r .latest)
@@ -226,7 +226,7 @@ module _ (r : Reader) where
       record {
         fed = p .fed;
         latest = record { ok43 = p .latest43; ok46 = p .latest46; okEB = p .latestEB };
-        low = λ l. clauses-low (modeOf (r .head .mode)) (r .head .place) (r .head .id) (dataOf (r .head .len) (r .bytes)) (r .head .c1) (r .head .c2) (r .head .pending) l (of-possible p);
+        low = λ l. clauses-low (modeOf (r .head .mode)) (r .head .place) (r .head .id) (firstBytes (r .head .len) (r .bytes)) (r .head .c1) (r .head .c2) (r .head .pending) l (of-possible p);
         opened = λ l. opened-asks (asked p l);
       }
 

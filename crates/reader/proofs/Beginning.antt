@@ -9,7 +9,7 @@ use lib.Dec.{eqb, ltb}
 use lib.ListN.{length, take}
 use Rattle.line.specs.Frame.{modeOf}
 use Rattle.line.specs.Record.{Possible, limit, stateOf, walk, PlaceOk}
-use Rattle.record.specs.View.{placeOf, dataOf, view}
+use Rattle.record.specs.View.{placeOf, firstBytes, view}
 use Rattle.latest.specs.Latest.{latestOf}
 use Rattle.reader.specs.Closing.{Ready}
 use Rattle.reader.specs.Moving.{see, placeNow, startOf, baseOf, turned, resultOf, Pends, Sound, Fits, Ran}
@@ -29,9 +29,9 @@ place-low n id d d′ c1 c2 l =
     ap (λ i. placeOf i id d c1 c2) q ∙ ap (λ i. placeOf i id d′ c1 c2) (sym q))
 
 module _ (r : Reader) (whole : length (r .bytes) ≡ 1024) (p : Possible (view r)) where
-  asked : 2 ≤ r .head .place → Asks (modeOf (r .head .mode)) (r .head .place) (r .head .id) (dataOf (r .head .len) (r .bytes)) (r .head .pending)
+  asked : 2 ≤ r .head .place → Asks (modeOf (r .head .mode)) (r .head .place) (r .head .id) (firstBytes (r .head .len) (r .bytes)) (r .head .pending)
   asked g =
-      clauses-open (modeOf (r .head .mode)) (r .head .place) (r .head .id) (dataOf (r .head .len) (r .bytes)) (r .head .c1) (r .head .c2) (r .head .pending) g
+      clauses-open (modeOf (r .head .mode)) (r .head .place) (r .head .id) (firstBytes (r .head .len) (r .bytes)) (r .head .c1) (r .head .c2) (r .head .pending) g
       (of-possible r p)
 
   short-len : 2 ≤ r .head .place → r .head .len ≤ 1024

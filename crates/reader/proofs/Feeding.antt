@@ -16,7 +16,7 @@ use Rattle.line.specs.Table.{Event as Said, pending}
 use Rattle.line.specs.Table.Event.{nothing, message, refusal}
 use Rattle.line.specs.Record.{Rec, Result, limit, stateOf, eventOf, stepped, oneMore, orStop, walk, PlaceOk}
 use Rattle.record.proofs.Data.{tested}
-use Rattle.reader.specs.Moving.{Base, Out, one, see, placeNow, turned, ended, verdictOf, ahead, onward, Pends, Sound, Fits, Steps, Goes, Ran}
+use Rattle.reader.specs.Moving.{Base, Out, one, see, placeNow, turned, ended, verdictOf, ahead, onward, Pends, Sound, Fits, Moves, Goes, Ran}
 use Rattle.reader.specs.declared.Moving.{Moving}
 use Rattle.reader.specs.declared.Moved.{Moved}
 use Rattle.reader.specs.declared.Act.{Act}
@@ -57,7 +57,7 @@ one-step x s at o e h l =
 any : Base
 any = record { accepted = 0; refused = 0; fed = 0; latest = λ k. none }
 
-pends-of : {k : ℕ} {m : Moving} {a a′ : List ℕ} {b at n : ℕ} {t : Moved} → Steps k m a a′ b at n t → t .act ≡ Quiet → Pends (t .now) a′
+pends-of : {k : ℕ} {m : Moving} {a a′ : List ℕ} {b at n : ℕ} {t : Moved} → Moves k m a a′ b at n t → t .act ≡ Quiet → Pends (t .now) a′
 unfolding turned
 pends-of {k} {m} {a} {a′} {b} {t = t} x e =
     ap (λ (o : Out). o .after .pending) w ∙ sym (ap (λ (o : Out). pending (stateOf (o .after .place))) w)
@@ -66,7 +66,7 @@ pends-of {k} {m} {a} {a′} {b} {t = t} x e =
     w = ap (λ (y : Act). turned k any y (t .now) (t .last) a′ (0 + 1)) (sym e) ∙ x .says any 0
 
 -- and their place stays possible
-sound-of : {k : ℕ} {m : Moving} {a a′ : List ℕ} {b at n : ℕ} {t : Moved} → Steps k m a a′ b at n t → t .act ≡ Quiet → Sound k m a
+sound-of : {k : ℕ} {m : Moving} {a a′ : List ℕ} {b at n : ℕ} {t : Moved} → Moves k m a a′ b at n t → t .act ≡ Quiet → Sound k m a
     → Sound k (t .now) a′
 unfolding turned
 sound-of {k} {m} {a} {a′} {b} {t = t} x e h =
@@ -76,7 +76,7 @@ sound-of {k} {m} {a} {a′} {b} {t = t} x e h =
     w = ap (λ (y : Act). turned k any y (t .now) (t .last) a′ (0 + 1)) (sym e) ∙ x .says any 0
 
 -- a function of one byte, as one of some bytes
-pub goes-of : {k : ℕ} {m : Moving} {a a′ s : List ℕ} {at n : ℕ} {t : Moved} → Steps k m a a′ (getD s at 0) (at + 1) n t → at < n
+pub goes-of : {k : ℕ} {m : Moving} {a a′ s : List ℕ} {at n : ℕ} {t : Moved} → Moves k m a a′ (getD s at 0) (at + 1) n t → at < n
     → n ≤ length s → length a′ ≡ 1024 → Goes k m a a′ s at n t
 goes-of {k} {m} {a} {a′} {s} {at} {n} {t} x h l w =
     record {

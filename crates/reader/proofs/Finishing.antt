@@ -16,7 +16,7 @@ use Rattle.line.specs.Table.State.{W, F}
 use Rattle.line.specs.Table.Event.{nothing, message, refusal}
 use Rattle.line.specs.Record.{Kept, update}
 use Rattle.line.specs.Record.Place.{at as on}
-use Rattle.record.specs.View.{placeOf, dataOf}
+use Rattle.record.specs.View.{placeOf, firstBytes}
 use Rattle.record.proofs.Data.{data-take}
 use Rattle.reader.specs.Moving.{see, closedBy, ended, verdictOf, baseOf}
 use Rattle.reader.specs.Closing.{headWith, resumed, reopenedBy, concludedBy, storedBy, seeHead, Finishes}
@@ -39,7 +39,7 @@ not-kept e = let z : _≡_ {A = ℕ} 0 1 = cc in absurd (omega arith)
 module _ (h : Head) (m : Moving) (at : ℕ) (a : List ℕ) (l : Kept → Option (List ℕ)) (short : m .len ≤ 1024) (whole : length a ≡ 1024) where
   pub finish-quiet : Finishes l (record { after = see (h .mode) (baseOf h l) m a (h .fed + at); event = nothing }) a
       (resumed h m at)
-  unfolding dataOf
+  unfolding firstBytes
   finish-quiet =
       record {
         after = λ i. seeHead-as i;
@@ -48,7 +48,7 @@ module _ (h : Head) (m : Moving) (at : ℕ) (a : List ℕ) (l : Kept → Option 
         good = λ e. not-kept e;
       }
     where
-      d : dataOf (m .len) a ≡ take (m .len) a
+      d : firstBytes (m .len) a ≡ take (m .len) a
       d = data-take (m .len) a (omega arith)
 
       seeHead-as : seeHead (headWith h m at (m .place) (m .id) (m .len) (m .pending)) a (storedBy false 0 (take 0 a) l)
@@ -69,7 +69,7 @@ module _ (h : Head) (m : Moving) (at : ℕ) (a : List ℕ) (l : Kept → Option 
   pub finish-refused : (v : ℕ)
       → Finishes l (closedBy (h .mode) (baseOf h l) 0 (m .pending) (on W) (m .outside) 0 (h .fed + at) (refusal v (m .id) (m .pending))) a
       (concludedBy false h m at v)
-  unfolding dataOf placeOf
+  unfolding firstBytes placeOf
   finish-refused v =
       record {
         after = λ i.
@@ -91,7 +91,7 @@ module _ (h : Head) (m : Moving) (at : ℕ) (a : List ℕ) (l : Kept → Option 
   pub finish-reopened : (v b : ℕ)
       → Finishes l (closedBy (h .mode) (baseOf h l) 0 (m .pending - 2) (on (F b [])) (m .outside) 2 (h .fed + at) (refusal v (m .id) (m .pending - 2))) a
       (reopenedBy h m b at v)
-  unfolding dataOf placeOf
+  unfolding firstBytes placeOf
   finish-reopened v b =
       record {
         after = λ i.
@@ -113,13 +113,13 @@ module _ (h : Head) (m : Moving) (at : ℕ) (a : List ℕ) (l : Kept → Option 
   pub finish-ended : (v : ℕ) → v ≡ verdictOf (h .mode) m a
       → Finishes l (ended (eqb (verdictOf (h .mode) m a) 0) (verdictOf (h .mode) m a) (h .mode) (baseOf h l) m a (h .fed + at)) a
       (concludedBy (eqb v 0) h m at v)
-  unfolding dataOf placeOf
+  unfolding firstBytes placeOf
   finish-ended v e = subst P e (by (eqb v 0) refl)
     where
       P : ℕ → Type 0
       P w = Finishes l (ended (eqb w 0) w (h .mode) (baseOf h l) m a (h .fed + at)) a (concludedBy (eqb v 0) h m at v)
 
-      d : dataOf (m .len) a ≡ take (m .len) a
+      d : firstBytes (m .len) a ≡ take (m .len) a
       d = data-take (m .len) a (omega arith)
 
       by : (t : Bool) → eqb v 0 ≡ t → Finishes l (ended t v (h .mode) (baseOf h l) m a (h .fed + at)) a (concludedBy t h m at v)

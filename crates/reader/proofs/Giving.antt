@@ -1,7 +1,7 @@
 -- From what an act comes to, to what the slice call returns.
 use mathlib.Core.Bool.{Bool, true, false, cond}
 use mathlib.Core.List.{List}
-use mathlib.Core.Path.{_≡_, refl, sym, ap, _∙_, subst}
+use mathlib.Core.Path.{_≡_, refl, _∙_, subst}
 use Prim.Native.Nat.{ℕ, _+_}
 use native.Mathlib.Omega.{arith}
 use borrow.Author.Tests.{ltb-true, ltb-false}
@@ -10,7 +10,7 @@ use lib.ListN.{length, take}
 use Rattle.line.specs.Record.{Kept, Possible, Result, walk}
 use Rattle.latest.specs.Latest.{latestOf}
 use Rattle.latest.specs.declared.Latest.{Latest}
-use Rattle.record.specs.View.{placeOf, dataOf, view, partsOf, shown, recordOf}
+use Rattle.record.specs.View.{placeOf, firstBytes, view, partsOf, shown}
 use Rattle.record.specs.Posts.{Refuses, FeedPost, InPlacePost, fedOf}
 use Rattle.record.specs.declared.Reader.{Reader}
 use Rattle.record.specs.declared.Fed.{Fed}
@@ -42,7 +42,7 @@ module _ (r : Reader) (t : Moved) where
     (λ i.
         record {
           mode = o .head .mode;
-          place = placeOf (o .head .place) (o .head .id) (dataOf (o .head .len) (r .bytes)) (o .head .c1) (o .head .c2);
+          place = placeOf (o .head .place) (o .head .id) (firstBytes (o .head .len) (r .bytes)) (o .head .c1) (o .head .c2);
           fed = o .head .fed;
           accepted = o .head .accepted;
           refused = o .head .refused;
@@ -58,7 +58,7 @@ module _ (r : Reader) (t : Moved) where
 module _ (r : Reader) (s : List ℕ) (v : ℕ) (q : Questions r (length s) v) where
   -- where one of questions 1 to 3 is no
   pub refuses : (v ≡ 0 → ⊥) → InPlacePost (r .head) (r .latest) (r .bytes) (r .bytes) s (refusedBy (r .head) (r .latest) v)
-  unfolding dataOf
+  unfolding firstBytes
   refuses n =
       record {
         feeds = λ w.

@@ -18,7 +18,7 @@ use Rattle.line.specs.Table.Event.{refusal}
 use Rattle.line.specs.Record.{stateOf}
 use Rattle.line.specs.Record.Place.{at as on}
 use Rattle.record.specs.View.{placeOf}
-use Rattle.reader.specs.Moving.{one, placeNow, turned, verdictOf, Pends, Fits, Steps, went, passed, opened, shut}
+use Rattle.reader.specs.Moving.{one, placeNow, turned, verdictOf, Pends, Fits, Moves, went, passed, opened, shut}
 use Rattle.reader.specs.declared.Moving.{Moving}
 use Rattle.reader.specs.declared.Act.the-variants.{Quiet, Refused, Reopened, Ended}
 use Rattle.reader.proofs.Stepping.{here, quiet-says, closed-says, ended-says, pending-went}
@@ -45,7 +45,7 @@ module _ (k : ℕ) (m : Moving) (a : List ℕ) (b at n : ℕ) (one≤ : 1 ≤ at
   -- a byte that pends: the place is p, and the checksum's bytes are x and y
   pub steps-went : (x y p : ℕ) (s′ : State) → next (modeOf k) (here k m a b) b ≡ go s′
       → placeOf p (m .id) (take (m .len) a) x y ≡ on s′ → p < 8 → Pends m a
-      → Steps k m a a b at n
+      → Moves k m a a b at n
       (went (record { place = m .place; id = m .id; c1 = x; c2 = y; len = m .len; outside = m .outside; pending = m .pending }) p at)
   unfolding turned
   steps-went x y p s′ e q l h =
@@ -60,7 +60,7 @@ module _ (k : ℕ) (m : Moving) (a : List ℕ) (b at n : ℕ) (one≤ : 1 ≤ at
       }
 
   -- two bytes stay outside
-  pub steps-passed : next (modeOf k) (here k m a b) b ≡ skip 2 → m .pending ≡ 1 → Steps k m a a b at n (passed m at)
+  pub steps-passed : next (modeOf k) (here k m a b) b ≡ skip 2 → m .pending ≡ 1 → Moves k m a a b at n (passed m at)
   unfolding turned placeOf
   steps-passed e h =
       record {
@@ -72,7 +72,7 @@ module _ (k : ℕ) (m : Moving) (a : List ℕ) (b at n : ℕ) (one≤ : 1 ≤ at
       }
 
   -- a frame is open
-  pub steps-opened : next (modeOf k) (here k m a b) b ≡ go (F b []) → Pends m a → Steps k m a a b at n (opened m b at)
+  pub steps-opened : next (modeOf k) (here k m a b) b ≡ go (F b []) → Pends m a → Moves k m a a b at n (opened m b at)
   unfolding turned placeOf
   steps-opened e h =
       record {
@@ -90,7 +90,7 @@ module _ (k : ℕ) (m : Moving) (a : List ℕ) (b at n : ℕ) (one≤ : 1 ≤ at
 
   -- the frame is refused
   pub steps-refused : (v : ℕ) → next (modeOf k) (here k m a b) b ≡ refuse v (m .id) (pending (here k m a b) + 1) → 1 ≤ m .pending → Pends m a
-      → Steps k m a a b at n (shut m (Refused v) b at)
+      → Moves k m a a b at n (shut m (Refused v) b at)
   unfolding turned
   steps-refused v e g h =
       record {
@@ -105,7 +105,7 @@ module _ (k : ℕ) (m : Moving) (a : List ℕ) (b at n : ℕ) (one≤ : 1 ≤ at
 
   -- the frame is refused, and a new one is open
   pub steps-reopened : (v c : ℕ) → next (modeOf k) (here k m a b) b ≡ reopen v (m .id) c b → c + 1 ≡ m .pending → 1 ≤ m .pending
-      → Steps k m a a b at n (shut m (Reopened v) b at)
+      → Moves k m a a b at n (shut m (Reopened v) b at)
   unfolding turned
   steps-reopened v c e g l =
       let q : m .pending + 1 - 2 ≡ c = omega arith in
@@ -122,7 +122,7 @@ module _ (k : ℕ) (m : Moving) (a : List ℕ) (b at n : ℕ) (one≤ : 1 ≤ at
 
   -- the frame ends
   pub steps-ended : next (modeOf k) (here k m a b) b ≡ ends (verdictOf k m a) (m .id) (take (m .len) a) (pending (here k m a b) + 1)
-      → 1 ≤ m .pending → Pends m a → Steps k m a a b at n (shut m Ended b at)
+      → 1 ≤ m .pending → Pends m a → Moves k m a a b at n (shut m Ended b at)
   unfolding turned
   steps-ended e g h =
       record {
@@ -138,7 +138,7 @@ module _ (k : ℕ) (m : Moving) (a : List ℕ) (b at n : ℕ) (one≤ : 1 ≤ at
   -- a byte joins the data
   pub steps-stored : next (modeOf k) (here k m a b) b ≡ join (m .id) (take (m .len) a) b (pending (here k m a b) + 1) → length a ≡ 1024
       → m .len < 1024 → Pends m a
-      → Steps k m a (set a (m .len) b) b at n
+      → Moves k m a (set a (m .len) b) b at n
       (went (record { place = m .place; id = m .id; c1 = m .c1; c2 = m .c2; len = m .len + 1; outside = m .outside; pending = m .pending }) 2 at)
   unfolding turned placeOf
   steps-stored e w l h =

@@ -11,7 +11,7 @@ use Rattle.line.specs.Table.Event.{message}
 use Rattle.line.specs.Record.{Rec, Kept, limit, update, walk}
 use Rattle.latest.specs.Latest.{latestOf}
 use Rattle.latest.specs.declared.Latest.{Latest}
-use Rattle.record.specs.View.{placeOf, dataOf, view, shown}
+use Rattle.record.specs.View.{placeOf, firstBytes, view, shown}
 use Rattle.record.specs.declared.InPlace.{InPlace}
 use Rattle.record.specs.declared.Reader.{Reader}
 use Rattle.record.specs.declared.Head.{Head}
@@ -89,7 +89,7 @@ abbrev pub seeHead : Head → List ℕ → (Kept → Option (List ℕ)) → Rec
 seeHead h a x =
     record {
       mode = h .mode;
-      place = placeOf (h .place) (h .id) (dataOf (h .len) a) (h .c1) (h .c2);
+      place = placeOf (h .place) (h .id) (firstBytes (h .len) a) (h .c1) (h .c2);
       fed = h .fed;
       accepted = h .accepted;
       refused = h .refused;
@@ -101,7 +101,7 @@ seeHead h a x =
 -- the head, the answer's parts and what is to be kept are those of the record and the answer o
 pub record Finishes (l : Kept → Option (List ℕ)) (o : Out) (a : List ℕ) (c : Closed) : Type 0 where
   pub after : seeHead (c .head) a (storedBy (c .keep) (c .id) (take (c .len) a) l) ≡ o .after
-  pub said : record { event = c .event; id = c .id; body = dataOf (c .len) a; closed = c .closed } ≡ shown (o .event)
+  pub said : record { event = c .event; id = c .id; body = firstBytes (c .len) a; closed = c .closed } ≡ shown (o .event)
   pub short : c .len ≤ 1024
   pub good : c .keep ≡ true → Acceptable (c .id) (take (c .len) a)
 

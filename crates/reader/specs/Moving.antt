@@ -7,13 +7,13 @@ use Prim.Native.Nat.{ℕ, _+_, _-_, _≤_, _<_}
 use lib.Dec.{eqb, ltb}
 use lib.ListN.{length, take, drop, getD}
 use Rattle.stuffing.specs.Stuffing.{DLE}
-use Rattle.line.specs.Frame.{modeOf, judge, Acceptable}
+use Rattle.line.specs.Frame.{modeOf, judge}
 use Rattle.line.specs.Table.{Event as Said, pending, verdict}
 use Rattle.line.specs.Table.State.{W, F}
-use Rattle.line.specs.Table.Event.{nothing, message, refusal}
+use Rattle.line.specs.Table.Event.{nothing, refusal}
 use Rattle.line.specs.Record.{Rec, Kept, Place, Result, limit, stateOf, update, eventOf, stepped, orStop, walk, PlaceOk}
 use Rattle.line.specs.Record.Place.{at as on}
-use Rattle.record.specs.View.{placeOf, dataOf, shown}
+use Rattle.record.specs.View.{placeOf}
 use Rattle.record.specs.declared.Head.{Head}
 use Rattle.reader.specs.declared.Moving.{Moving}
 use Rattle.reader.specs.declared.Act.{Act}
@@ -166,7 +166,7 @@ Busy (Reopened v) m = 2 ≤ m .pending
 Busy Ended m = 2 ≤ m .pending
 
 -- one byte: t is what the table says of the byte b, and `at` is the place after it
-pub record Steps (k : ℕ) (m : Moving) (a a′ : List ℕ) (b at n : ℕ) (t : Moved) : Type 0 where
+pub record Moves (k : ℕ) (m : Moving) (a a′ : List ℕ) (b at n : ℕ) (t : Moved) : Type 0 where
   pub fits : Fits (t .now) at n
   pub tally : t .now .outside + t .now .pending ≡ m .outside + m .pending + 1
   pub busy : Busy (t .act) (t .now)

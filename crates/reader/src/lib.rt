@@ -15,7 +15,7 @@ ghost use lib.ListN.{length, take};
 ghost use Rattle.line.specs.Frame.{modeOf, judge as judgeOf};
 ghost use Rattle.line.specs.Record.{limit, Kept};
 ghost use Rattle.record.specs.Posts.{InPlacePost};
-ghost use Rattle.reader.specs.Moving.{Skips, Copied, Fills, Fits, Pends, Sound, Steps, Goes, Ran, Busy, went, passed, opened, shut as shutOf, startOf, turned, baseOf};
+ghost use Rattle.reader.specs.Moving.{Skips, Copied, Fills, Fits, Pends, Sound, Moves, Goes, Ran, Busy, went, passed, opened, shut as shutOf, startOf, turned, baseOf};
 ghost use Rattle.reader.specs.Closing.{Finishes, headWith, resumed, reopenedBy, concludedBy, concluded, refusedBy};
 
 // The numbers that move in a slice call.
@@ -234,7 +234,7 @@ fn in_w(m: Moving, s: &[u8], at: usize, n: usize) -> Moved
 fn in_wd(m: Moving, b: u8, at: usize, n: usize) -> Moved
     requires { ⌜ (1 ≤ at) × (at ≤ n) × (m .place ≡ 1) × (m .pending ≡ 1) ⌝ }
     requires { ⌜ Fits m (at - 1) n ⌝ }
-    ensures { λ r. ⌜ ((k : ℕ) (a : List ℕ) → length a ≡ 1024 → Steps k m a a b at n r) ⌝ }
+    ensures { λ r. ⌜ ((k : ℕ) (a : List ℕ) → length a ≡ 1024 → Moves k m a a b at n r) ⌝ }
 {
     match b {
         Reader::ETX | Reader::DLE | Reader::SUM => pass_by(m, at),
@@ -278,7 +278,7 @@ fn in_f(m: Moving, d: &mut [u8; 1024], s: &[u8], at: usize, n: usize) -> Moved
 fn in_fd(mode: u8, m: Moving, d: &mut [u8; 1024], b: u8, at: usize, n: usize) -> Moved
     requires { ⌜ (1 ≤ at) × (at ≤ n) × (m .place ≡ 3) × (length (now d) ≡ 1024) × Pends m (now d) ⌝ }
     requires { ⌜ Fits m (at - 1) n ⌝ }
-    ensures { λ r. ⌜ Steps mode m (now (d .entry)) (now (d .exit)) b at n r ⌝ }
+    ensures { λ r. ⌜ Moves mode m (now (d .entry)) (now (d .exit)) b at n r ⌝ }
     ensures { λ r. ⌜ length (now (d .exit)) ≡ 1024 ⌝ }
 {
     match b {
@@ -318,7 +318,7 @@ fn in_fd(mode: u8, m: Moving, d: &mut [u8; 1024], b: u8, at: usize, n: usize) ->
 fn in_c0(m: Moving, b: u8, at: usize, n: usize) -> Moved
     requires { ⌜ (1 ≤ at) × (at ≤ n) × (m .place ≡ 4) ⌝ }
     requires { ⌜ Fits m (at - 1) n ⌝ }
-    ensures { λ r. ⌜ ((k : ℕ) (a : List ℕ) → length a ≡ 1024 → Pends m a → Steps k m a a b at n r) ⌝ }
+    ensures { λ r. ⌜ ((k : ℕ) (a : List ℕ) → length a ≡ 1024 → Pends m a → Moves k m a a b at n r) ⌝ }
 {
     let w = Moving {
         place: m.place,
@@ -336,7 +336,7 @@ fn in_c0(m: Moving, b: u8, at: usize, n: usize) -> Moved
 fn in_c1(m: Moving, b: u8, at: usize, n: usize) -> Moved
     requires { ⌜ (1 ≤ at) × (at ≤ n) × (m .place ≡ 5) ⌝ }
     requires { ⌜ Fits m (at - 1) n ⌝ }
-    ensures { λ r. ⌜ ((k : ℕ) (a : List ℕ) → length a ≡ 1024 → Pends m a → Steps k m a a b at n r) ⌝ }
+    ensures { λ r. ⌜ ((k : ℕ) (a : List ℕ) → length a ≡ 1024 → Pends m a → Moves k m a a b at n r) ⌝ }
 {
     let w = Moving {
         place: m.place,
@@ -354,7 +354,7 @@ fn in_c1(m: Moving, b: u8, at: usize, n: usize) -> Moved
 fn in_e(m: Moving, b: u8, at: usize, n: usize) -> Moved
     requires { ⌜ (1 ≤ at) × (at ≤ n) × (m .place ≡ 6) × (2 ≤ m .pending) ⌝ }
     requires { ⌜ Fits m (at - 1) n ⌝ }
-    ensures { λ r. ⌜ ((k : ℕ) (a : List ℕ) → length a ≡ 1024 → Pends m a → Steps k m a a b at n r) ⌝ }
+    ensures { λ r. ⌜ ((k : ℕ) (a : List ℕ) → length a ≡ 1024 → Pends m a → Moves k m a a b at n r) ⌝ }
 {
     if b == Reader::DLE {
         go(m, Reader::ED, at)
@@ -367,7 +367,7 @@ fn in_e(m: Moving, b: u8, at: usize, n: usize) -> Moved
 fn in_ed(m: Moving, b: u8, at: usize, n: usize) -> Moved
     requires { ⌜ (1 ≤ at) × (at ≤ n) × (m .place ≡ 7) × (2 ≤ m .pending) ⌝ }
     requires { ⌜ Fits m (at - 1) n ⌝ }
-    ensures { λ r. ⌜ ((k : ℕ) (a : List ℕ) → Sound k m a → length a ≡ 1024 → Pends m a → Steps k m a a b at n r) ⌝ }
+    ensures { λ r. ⌜ ((k : ℕ) (a : List ℕ) → Sound k m a → length a ≡ 1024 → Pends m a → Moves k m a a b at n r) ⌝ }
 {
     match b {
         Reader::ETX => shut(m, Act::Ended, b, at),

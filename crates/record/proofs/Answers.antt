@@ -1,5 +1,5 @@
 -- The parts of an answer and the event that they are: one determines the other.
-use mathlib.Core.List.{[], _∷_}
+use mathlib.Core.List.{[]}
 use mathlib.Core.Path.{_≡_, refl, sym, ap, _∙_}
 use Prim.Native.Nat.{ℕ}
 use Rattle.line.specs.Table.{Event}

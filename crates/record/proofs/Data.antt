@@ -9,16 +9,16 @@ use lib.Seq.{take-append-le, length-take-le}
 use Rattle.line.specs.Frame.{classOf}
 use Rattle.line.specs.Frame.Class.{dle, etx, sum}
 use Rattle.line.proofs.Classes.{class-dle, class-etx, class-sum}
-use Rattle.record.specs.View.{dataOf}
+use Rattle.record.specs.View.{firstBytes}
 
 -- within the array, the data are its first bytes
-pub data-take : (n : ℕ) (a : List ℕ) → n ≤ length a → dataOf n a ≡ take n a
-unfolding dataOf
+pub data-take : (n : ℕ) (a : List ℕ) → n ≤ length a → firstBytes n a ≡ take n a
+unfolding firstBytes
 data-take n a h = take-append-le n a (replicate n 0) h
 
 -- and they are always as many as said
-pub data-length : (n : ℕ) (a : List ℕ) → length (dataOf n a) ≡ n
-unfolding dataOf
+pub data-length : (n : ℕ) (a : List ℕ) → length (firstBytes n a) ≡ n
+unfolding firstBytes
 data-length n a =
     length-take-le n (a ++ replicate n 0) (rw (length-append a (replicate n 0), length-replicate {A = ℕ} n 0) (omega arith))
 

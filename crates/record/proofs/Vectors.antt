@@ -8,8 +8,8 @@ use Rattle.line.specs.Record.{Kept}
 use Rattle.line.specs.Record.Kept.{k43, k46, k4A, k4B, kEB}
 use Rattle.line.specs.Record.Place.{at, unknown}
 use Rattle.latest.specs.Latest.{latestOf}
-use Rattle.record.specs.View.{placeOf, dataOf, view}
-use Rattle.record.specs.Posts.{blank}
+use Rattle.record.specs.View.{placeOf, firstBytes, view}
+use Rattle.record.specs.Posts.{blankRecord}
 
 pub places : (id : ℕ) (d : List ℕ) (c1 c2 : ℕ)
     → map (λ n. placeOf n id d c1 c2) (0 ∷ 1 ∷ 2 ∷ 3 ∷ 4 ∷ 5 ∷ 6 ∷ 7 ∷ 8 ∷ [])
@@ -18,15 +18,15 @@ unfolding placeOf
 places id d c1 c2 = refl
 
 -- a length above the array's is seen
-pub data-first : dataOf 2 (1 ∷ 2 ∷ 3 ∷ []) ≡ 1 ∷ 2 ∷ []
-unfolding dataOf
+pub data-first : firstBytes 2 (1 ∷ 2 ∷ 3 ∷ []) ≡ 1 ∷ 2 ∷ []
+unfolding firstBytes
 data-first = refl
 
-pub data-above : dataOf 3 (1 ∷ []) ≡ 1 ∷ 0 ∷ 0 ∷ []
-unfolding dataOf
+pub data-above : firstBytes 3 (1 ∷ []) ≡ 1 ∷ 0 ∷ 0 ∷ []
+unfolding firstBytes
 data-above = refl
 
-absent : (k : Kept) → latestOf (blank 0 .latest) k ≡ none
+absent : (k : Kept) → latestOf (blankRecord 0 .latest) k ≡ none
 absent k43 = refl
 absent k46 = refl
 absent k4A = refl
@@ -38,7 +38,7 @@ pub viewed : view
     (record {
       head =
           record { mode = 1; place = 6; id = 0x21; c1 = 0xB4; c2 = 0xA0; len = 1; accepted = 40; refused = 30; outside = 20; pending = 8; fed = 98 };
-      latest = blank 0 .latest;
+      latest = blankRecord 0 .latest;
       bytes = 0x10 ∷ 0x11 ∷ [];
     })
     ≡ record {
@@ -51,5 +51,5 @@ pub viewed : view
       pending = 8;
       latest = λ k. none;
     }
-unfolding placeOf dataOf
+unfolding placeOf firstBytes
 viewed = λ i. record { mode = 1; place = at (E 0x21 (0x10 ∷ []) 0xB4 0xA0); fed = 98; accepted = 40; refused = 30; outside = 20; pending = 8; latest = λ k. absent k i }

@@ -19,8 +19,8 @@ use Rattle.record.specs.declared.Fed.{Fed}
 use Rattle.record.specs.declared.InPlace.{InPlace}
 
 -- a record of mode m that has taken nothing, whole
-abbrev pub blank : ℕ → Reader
-blank m =
+abbrev pub blankRecord : ℕ → Reader
+blankRecord m =
     record {
       head = record { mode = m; place = 0; id = 0; c1 = 0; c2 = 0; len = 0; accepted = 0; refused = 0; outside = 0; pending = 0; fed = 0 };
       latest =
@@ -43,7 +43,7 @@ pub record FreshPost (m : ℕ) (x : Fresh) : Type 0 where
   pub good : m ≤ 1 → (x .refusal ≡ 0) × (fresh m ≡ made (view (x .reader)))
   pub bad : 1 < m → x .refusal ≡ 1
   -- the record, whole: of mode 0 or 1 it is the fresh one, else a stand-in, which question 1 refuses
-  pub whole : x .reader ≡ blank m
+  pub whole : x .reader ≡ blankRecord m
 
 -- a single step
 pub record StepPost (r : Reader) (b : ℕ) (x : Stepped) : Type 0 where

@@ -28,8 +28,8 @@ placeOf n id d c1 c2 =
     (cond (eqb n 5) (at (C1 id d c1)) (cond (eqb n 6) (at (E id d c1 c2)) (cond (eqb n 7) (at (ED id d c1 c2)) (unknown n))))))))
 
 -- n bytes: those of the array, and past its end zeros, so that a length above the array's is seen
-unfoldable pub dataOf : ℕ → List ℕ → List ℕ
-dataOf n body = take n (body ++ replicate n 0)
+unfoldable pub firstBytes : ℕ → List ℕ → List ℕ
+firstBytes n body = take n (body ++ replicate n 0)
 
 -- a record of these parts
 abbrev pub recordOf : Head → Latest → List ℕ → Reader
@@ -40,7 +40,7 @@ view r =
     let h = r .head in
     record {
       mode = h .mode;
-      place = placeOf (h .place) (h .id) (dataOf (h .len) (r .bytes)) (h .c1) (h .c2);
+      place = placeOf (h .place) (h .id) (firstBytes (h .len) (r .bytes)) (h .c1) (h .c2);
       fed = h .fed;
       accepted = h .accepted;
       refused = h .refused;
@@ -57,7 +57,7 @@ pub record Parts : Type 0 where
   pub closed : ℕ
 
 abbrev pub partsOf : Answer → Parts
-partsOf a = record { event = a .event; id = a .id; body = dataOf (a .len) (a .bytes); closed = a .closed }
+partsOf a = record { event = a .event; id = a .id; body = firstBytes (a .len) (a .bytes); closed = a .closed }
 
 -- what they are for each event of the paper: with "nothing yet" 0 and empty, with a refusal no data
 abbrev pub shown : Said → Parts

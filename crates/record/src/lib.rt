@@ -1,7 +1,7 @@
 // The reader's record, and a fresh one.
 use latest::Latest;
 ghost use mathlib.Core.Path.{_≡_};
-ghost use Rattle.record.specs.Posts.{FreshPost, blank as blankOf};
+ghost use Rattle.record.specs.Posts.{FreshPost, blankRecord};
 
 // A count of bytes.
 pub type Count = u32;
@@ -108,7 +108,7 @@ impl Reader {
 
     // A record of a mode that has taken nothing.
     fn blank(mode: u8) -> Reader
-        ensures { λ r. ⌜ r ≡ blankOf mode ⌝ }
+        ensures { λ r. ⌜ r ≡ blankRecord mode ⌝ }
     {
         let head = Head {
             mode: mode,

@@ -10,7 +10,7 @@ use Rattle.line.specs.Record.{Rec, fresh}
 use Rattle.line.specs.Record.Fresh.{made}
 use Rattle.record.specs.declared.Reader.{Reader}
 use Rattle.record.specs.View.{view}
-use Rattle.record.specs.Posts.{blank}
+use Rattle.record.specs.Posts.{blankRecord}
 use Rattle.listing.specs.Text.{totalOf, longestTotal}
 use Rattle.lister.specs.Posts.{Good}
 use Rattle.streaming.specs.declared.Chunk.{Chunk}
@@ -60,4 +60,4 @@ unreadOf r v = record { reader = r; refusal = v; written = true; read = 0; last 
 -- by a fresh reader; a mode that has none is refused by 1
 pub record ListedPost (m : ℕ) (e : Ended) : Type 0 where
   pub good : (r : Rec) → fresh m ≡ made r → InputPost r e
-  pub bad : 1 < m → e ≡ unreadOf (blank m) 1
+  pub bad : 1 < m → e ≡ unreadOf (blankRecord m) 1

@@ -1,5 +1,5 @@
 -- `int8s_at` meets its contract: by what its callees ensure.
-use borrow.Author.Needs.{sfits-of, needs}
+use borrow.Author.Needs.{sfits-of}
 use mir.Facts.{toZ-ofZ}
 use Rattle.numbers.proofs.int8s_at.Statement.{statement}
 use Rattle.numbers.proofs.int8s_at.Tie as tie

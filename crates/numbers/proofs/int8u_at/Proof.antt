@@ -1,6 +1,5 @@
 -- `int8u_at` meets its contract: one byte is the number that it stands for.
 use mathlib.Core.Path.{sym, _∙_}
-use denote.Ref.{now}
 use Rattle.numbers.proofs.NumberLaws.{number-one}
 use Rattle.numbers.proofs.int8u_at.Statement.{statement}
 use Rattle.numbers.proofs.int8u_at.Tie as tie

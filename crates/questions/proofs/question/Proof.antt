@@ -8,7 +8,6 @@ use lib.ListN.{length}
 use denote.Ref.{now}
 use Rattle.line.specs.Record.{limit}
 use Rattle.latest.proofs.Deciding.{decided-yes, decided-no}
-use Rattle.latest.specs.declared.Latest.{Latest}
 use Rattle.record.specs.View.{recordOf}
 use Rattle.questions.specs.Question.{Valid, Questions}
 use Rattle.record.specs.declared.Reader.{Reader}

@@ -1,5 +1,5 @@
 -- `int8_at` meets its contract: by what its callees ensure.
-use borrow.Author.Needs.{sfits-of, needs}
+use borrow.Author.Needs.{sfits-of}
 use mir.Facts.{toZ-ofZ}
 use Rattle.ranges.proofs.int8_at.Statement.{statement}
 use Rattle.ranges.proofs.int8_at.Tie as tie

@@ -1,8 +1,7 @@
 -- `ranges::place` meets its contract: a satellite has a system and a number from 1 on.
 use mathlib.Core.Bool.{Bool, cond}
-use mathlib.Core.Path.{_≡_, sym, ap, _∙_}
+use mathlib.Core.Path.{sym, ap, _∙_}
 use native.Mathlib.Omega.{arith}
-use borrow.Author.Needs.{needs}
 use Rattle.ranges.specs.Ranges.{placeOf}
 use Rattle.ranges.proofs.OnceLaws.{Satellite, satellite-is}
 use Rattle.ranges.proofs.place.Statement.{statement}

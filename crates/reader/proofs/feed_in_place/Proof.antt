@@ -1,14 +1,13 @@
 -- `reader::feed_in_place` meets its contract: questions 1 to 3, then the bytes, then what they come to.
 use mathlib.Core.List.{List}
-use mathlib.Core.Path.{_≡_, refl, sym, ap, _∙_, subst}
+use mathlib.Core.Path.{sym, ap, _∙_, subst}
 use Prim.Native.Nat.{ℕ}
-use lib.ListN.{length, take}
+use lib.ListN.{take}
 use denote.Ref.{now}
-use Rattle.line.specs.Record.{Result, walk}
+use Rattle.line.specs.Record.{Result}
 use Rattle.latest.specs.Latest.{latestOf}
 use Rattle.latest.proofs.Storing.{stored-acceptable}
-use Rattle.latest.specs.declared.Latest.{Latest}
-use Rattle.record.specs.View.{view, recordOf}
+use Rattle.record.specs.View.{recordOf}
 use Rattle.record.specs.Posts.{InPlacePost, fedOf}
 use Rattle.record.specs.declared.Reader.{Reader}
 use Rattle.record.specs.declared.InPlace.{InPlace}

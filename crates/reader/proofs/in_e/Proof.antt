@@ -8,7 +8,7 @@ use Rattle.line.specs.Frame.{modeOf}
 use Rattle.line.specs.Table.{pending}
 use Rattle.line.specs.Table.State.{E, ED}
 use Rattle.record.specs.View.{placeOf}
-use Rattle.reader.specs.Moving.{Steps}
+use Rattle.reader.specs.Moving.{Moves}
 use Rattle.reader.specs.declared.Moved.{Moved}
 use Rattle.line.specs.Frame.{Class, classOf}
 use Rattle.line.specs.Frame.Class.{dle, etx, sum, other}
@@ -45,7 +45,7 @@ unfolding placeOf
 returns c k a w h =
     let x = c .before .before .args in
     let p = c .before .before .pre in
-    subst (λ (t : Moved). Steps k (x .m) a a (x .b) (x .at) (x .n) t) (sym (c .go .ensures))
+    subst (λ (t : Moved). Moves k (x .m) a a (x .b) (x .at) (x .n) t) (sym (c .go .ensures))
     (steps-went k (x .m) a (x .b) (x .at) (x .n) (p .0 .0) (p .1) (x .m .c1) (x .m .c2) 7
     (ED (x .m .id) (take (x .m .len) a) (x .m .c1) (x .m .c2))
     (row-at (modeOf k) (x .b) (in-place (x .m) a 6 (p .0 .2)) (is-dle (x .b) (c .before .if1 .taken)) refl) refl (omega arith) h)
@@ -56,7 +56,7 @@ returns-2 c k a w h =
     let x = c .before .before .args in
     let p = c .before .before .pre in
     let here = in-place (x .m) a 6 (p .0 .2) in
-    subst (λ (t : Moved). Steps k (x .m) a a (x .b) (x .at) (x .n) t) (sym (c .shut .ensures))
+    subst (λ (t : Moved). Moves k (x .m) a a (x .b) (x .at) (x .n) t) (sym (c .shut .ensures))
     (steps-refused k (x .m) a (x .b) (x .at) (x .n) (p .0 .0) (p .1) 8
     (ap (λ s. next (modeOf k) s (x .b)) here
     ∙ E-other (modeOf k) (x .m .id) (take (x .m .len) a) (x .m .c1) (x .m .c2) (x .b) (c .before .if1 .left)

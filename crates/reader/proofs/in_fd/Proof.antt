@@ -9,7 +9,7 @@ use Rattle.line.specs.Frame.{modeOf, judge}
 use Rattle.line.specs.Table.{pending, ends}
 use Rattle.line.specs.Table.State.{F, C0}
 use Rattle.record.specs.View.{placeOf}
-use Rattle.reader.specs.Moving.{Steps}
+use Rattle.reader.specs.Moving.{Moves}
 use Rattle.reader.specs.declared.Moved.{Moved}
 use lib.ListN.{set, length-set}
 use Rattle.line.specs.Table.{join, refuse}
@@ -55,7 +55,7 @@ returns c =
     let d = take (x .m .len) (now (x .d)) in
     let here = in-place (x .m) (now (x .d)) 3 (p .0 .2) in
     let more : 1 ≤ x .m .pending = omega (arith, p .0 .4, ap pending here) in (
-      subst (λ (t : Moved). Steps (x .mode) (x .m) (now (x .d)) (set (now (x .d)) (x .m .len) (x .b)) (x .b) (x .at) (x .n) t) (sym (c .go .ensures))
+      subst (λ (t : Moved). Moves (x .mode) (x .m) (now (x .d)) (set (now (x .d)) (x .m .len) (x .b)) (x .b) (x .at) (x .n) t) (sym (c .go .ensures))
           (steps-stored (x .mode) (x .m) (now (x .d)) (x .b) (x .at) (x .n) (p .0 .0) (p .1)
           (row-at (modeOf (x .mode)) (x .b) here (is-dle (x .b) (c .before .before .match .keys1)) refl
           ∙ ap (λ s. join (x .m .id) d (x .b) (pending s + 1)) (sym here))
@@ -71,7 +71,7 @@ returns-2 c =
     let d = take (x .m .len) (now (x .d)) in
     let here = in-place (x .m) (now (x .d)) 3 (p .0 .2) in
     let more : 1 ≤ x .m .pending = omega (arith, p .0 .4, ap pending here) in (
-      subst (λ (t : Moved). Steps (x .mode) (x .m) (now (x .d)) (now (x .d)) (x .b) (x .at) (x .n) t) (sym (c .shut .ensures))
+      subst (λ (t : Moved). Moves (x .mode) (x .m) (now (x .d)) (now (x .d)) (x .b) (x .at) (x .n) t) (sym (c .shut .ensures))
           (steps-refused (x .mode) (x .m) (now (x .d)) (x .b) (x .at) (x .n) (p .0 .0) (p .1) 4
           (row-at (modeOf (x .mode)) (x .b) here (is-dle (x .b) (c .before .before .match .keys1)) refl
           ∙ full-join (x .m .id) (now (x .d)) (x .m .len) (x .b) _ (p .0 .3)
@@ -89,7 +89,7 @@ returns-3 c =
     let d = take (x .m .len) (now (x .d)) in
     let here = in-place (x .m) (now (x .d)) 3 (p .0 .2) in
     let more : 1 ≤ x .m .pending = omega (arith, p .0 .4, ap pending here) in (
-      subst (λ (t : Moved). Steps (x .mode) (x .m) (now (x .d)) (now (x .d)) (x .b) (x .at) (x .n) t) (sym (c .shut2 .ensures))
+      subst (λ (t : Moved). Moves (x .mode) (x .m) (now (x .d)) (now (x .d)) (x .b) (x .at) (x .n) t) (sym (c .shut2 .ensures))
           (steps-ended (x .mode) (x .m) (now (x .d)) (x .b) (x .at) (x .n) (p .0 .0) (p .1)
           (row-mode (x .b) (ap modeOf (c .before .if2 .taken)) here (is-etx (x .b) (c .before .before .match .keys2)) refl
           ∙ (λ i. ends (judge (ap modeOf (sym (c .before .if2 .taken)) i) (x .m .id) d (x .m .c1) (x .m .c2)) (x .m .id) d (pending (sym here i) + 1)))
@@ -105,7 +105,7 @@ returns-4 c =
     let d = take (x .m .len) (now (x .d)) in
     let here = in-place (x .m) (now (x .d)) 3 (p .0 .2) in
     let more : 1 ≤ x .m .pending = omega (arith, p .0 .4, ap pending here) in (
-      subst (λ (t : Moved). Steps (x .mode) (x .m) (now (x .d)) (now (x .d)) (x .b) (x .at) (x .n) t) (sym (c .shut3 .ensures))
+      subst (λ (t : Moved). Moves (x .mode) (x .m) (now (x .d)) (now (x .d)) (x .b) (x .at) (x .n) t) (sym (c .shut3 .ensures))
           (steps-refused (x .mode) (x .m) (now (x .d)) (x .b) (x .at) (x .n) (p .0 .0) (p .1) 6
           (row-mode (x .b) (mode-summed (x .mode) (c .before .if2 .left)) here (is-etx (x .b) (c .before .before .match .keys2)) refl
           ∙ ap (λ s. refuse 6 (x .m .id) (pending s + 1)) (sym here))
@@ -121,7 +121,7 @@ returns-5 c =
     let d = take (x .m .len) (now (x .d)) in
     let here = in-place (x .m) (now (x .d)) 3 (p .0 .2) in
     let more : 1 ≤ x .m .pending = omega (arith, p .0 .4, ap pending here) in (
-      subst (λ (t : Moved). Steps (x .mode) (x .m) (now (x .d)) (now (x .d)) (x .b) (x .at) (x .n) t) (sym (c .shut4 .ensures))
+      subst (λ (t : Moved). Moves (x .mode) (x .m) (now (x .d)) (now (x .d)) (x .b) (x .at) (x .n) t) (sym (c .shut4 .ensures))
           (steps-refused (x .mode) (x .m) (now (x .d)) (x .b) (x .at) (x .n) (p .0 .0) (p .1) 7
           (row-mode (x .b) (ap modeOf (c .before .if3 .taken)) here (is-sum (x .b) (c .before .before .match .keys3)) refl
           ∙ ap (λ s. refuse 7 (x .m .id) (pending s + 1)) (sym here))
@@ -137,7 +137,7 @@ returns-6 c =
     let d = take (x .m .len) (now (x .d)) in
     let here = in-place (x .m) (now (x .d)) 3 (p .0 .2) in
     let more : 1 ≤ x .m .pending = omega (arith, p .0 .4, ap pending here) in (
-      subst (λ (t : Moved). Steps (x .mode) (x .m) (now (x .d)) (now (x .d)) (x .b) (x .at) (x .n) t) (sym (c .go2 .ensures))
+      subst (λ (t : Moved). Moves (x .mode) (x .m) (now (x .d)) (now (x .d)) (x .b) (x .at) (x .n) t) (sym (c .go2 .ensures))
           (steps-went (x .mode) (x .m) (now (x .d)) (x .b) (x .at) (x .n) (p .0 .0) (p .1) (x .m .c1) (x .m .c2) 4 (C0 (x .m .id) d)
           (row-mode (x .b) (mode-summed (x .mode) (c .before .if3 .left)) here (is-sum (x .b) (c .before .before .match .keys3)) refl)
           refl (omega arith) (p .0 .4)),
@@ -152,7 +152,7 @@ returns-7 c =
     let d = take (x .m .len) (now (x .d)) in
     let here = in-place (x .m) (now (x .d)) 3 (p .0 .2) in
     let more : 1 ≤ x .m .pending = omega (arith, p .0 .4, ap pending here) in (
-      subst (λ (t : Moved). Steps (x .mode) (x .m) (now (x .d)) (now (x .d)) (x .b) (x .at) (x .n) t) (sym (c .shut5 .ensures))
+      subst (λ (t : Moved). Moves (x .mode) (x .m) (now (x .d)) (now (x .d)) (x .b) (x .at) (x .n) t) (sym (c .shut5 .ensures))
           (steps-reopened (x .mode) (x .m) (now (x .d)) (x .b) (x .at) (x .n) (p .0 .0) (p .1) 5 (pending (F (x .m .id) d))
           (row-at (modeOf (x .mode)) (x .b) here
           (class-other (x .b) (c .before .match .rest .0 .0 .1) (c .before .match .rest .0 .1) (c .before .match .rest .1)) refl)

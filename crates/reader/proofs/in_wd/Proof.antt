@@ -5,7 +5,7 @@ use borrow.Author.Needs.{needs}
 use Rattle.line.specs.Frame.{modeOf}
 use Rattle.line.specs.Table.{pending}
 use Rattle.record.specs.View.{placeOf}
-use Rattle.reader.specs.Moving.{Pends, Steps}
+use Rattle.reader.specs.Moving.{Pends, Moves}
 use Rattle.reader.specs.declared.Moved.{Moved}
 use mathlib.Core.Logic.{inl, inr}
 use Rattle.line.proofs.Classes.{class-other}
@@ -27,7 +27,7 @@ returns c k a w =
     let x = c .before .before .args in
     let p = c .before .before .pre in
     let here = in-place (x .m) a 1 (p .0 .2) in
-    subst (λ (t : Moved). Steps k (x .m) a a (x .b) (x .at) (x .n) t) (sym (c .pass-by .ensures))
+    subst (λ (t : Moved). Moves k (x .m) a a (x .b) (x .at) (x .n) t) (sym (c .pass-by .ensures))
     (steps-passed k (x .m) a (x .b) (x .at) (x .n) (p .0 .0) (p .1)
     (elim (c .before .match .keys1) [
       | inl q ↦ row-at (modeOf k) (x .b) here (is-etx (x .b) q) refl
@@ -44,7 +44,7 @@ returns-2 c k a w =
     let here = in-place (x .m) a 1 (p .0 .2) in
     let no = c .before .match .rest .1 in
     let h : Pends (x .m) a = p .0 .3 ∙ sym (ap pending here) in
-    subst (λ (t : Moved). Steps k (x .m) a a (x .b) (x .at) (x .n) t) (sym (c .begin .ensures))
+    subst (λ (t : Moved). Moves k (x .m) a a (x .b) (x .at) (x .n) t) (sym (c .begin .ensures))
     (steps-opened k (x .m) a (x .b) (x .at) (x .n) (p .0 .0) (p .1)
     (row-at (modeOf k) (x .b) here (class-other (x .b) (λ q. no (inr (inl q))) (λ q. no (inl q)) (λ q. no (inr (inr q)))) refl) h)
 

@@ -1,5 +1,5 @@
 -- `put_sum` meets its contract: nothing in mode 0, and in mode 1 what `sum_bytes` and `put` say.
-use mathlib.Core.Path.{refl, sym, ap, _∙_}
+use mathlib.Core.Path.{refl, sym, _∙_}
 use mathlib.Core.List.{[], _∷_}
 use native.Mathlib.Nat.{add-zero}
 use borrow.Author.Needs.{needs}

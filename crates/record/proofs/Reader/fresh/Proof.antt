@@ -1,4 +1,4 @@
--- `record::Reader::fresh` meets its contract: a blank record is fresh in mode 0 and 1.
+-- `record::Reader::fresh` meets its contract: a blankRecord record is fresh in mode 0 and 1.
 use mathlib.Core.Path.{_≡_, refl, sym, ap, _∙_}
 use mathlib.Core.List.{[]}
 use Prim.Native.Nat.{ℕ, _-_, _≤_}
@@ -11,20 +11,20 @@ use Rattle.line.specs.Record.Fresh.{made, refused}
 use Rattle.line.specs.Record.Kept.{k43, k46, k4A, k4B, kEB}
 use Rattle.record.specs.View.{placeOf, view}
 use Rattle.latest.specs.Latest.{latestOf}
-use Rattle.record.specs.Posts.{blank}
+use Rattle.record.specs.Posts.{blankRecord}
 use Rattle.line.proofs.Mirror.{mirror}
 use Rattle.record.proofs.Reader.fresh.Statement.{statement}
 use Rattle.record.proofs.Reader.fresh.Tie as tie
 
-no-latest : (m : ℕ) (k : Kept) → none ≡ latestOf (blank m .latest) k
+no-latest : (m : ℕ) (k : Kept) → none ≡ latestOf (blankRecord m .latest) k
 no-latest m k43 = refl
 no-latest m k46 = refl
 no-latest m k4A = refl
 no-latest m k4B = refl
 no-latest m kEB = refl
 
--- what a fresh reader is, is what a blank record shows
-fresh-blank : (m : ℕ) → m ≤ 1 → fresh m ≡ made (view (blank m))
+-- what a fresh reader is, is what a blankRecord record shows
+fresh-blank : (m : ℕ) → m ≤ 1 → fresh m ≡ made (view (blankRecord m))
 unfolding placeOf
 fresh-blank m g =
     ap (λ t. cond t (made (mirror m [])) (refused 1)) (le-leb m 1 g)
