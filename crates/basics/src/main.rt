@@ -1,4 +1,8 @@
-// Reads calls as hexadecimal text, a line each, and prints what the calls under the others answer. A line that starts with # is
+// Prints the checksum's published vectors: the register over "123456789", then, a line each, over every single byte. The stored
+// output of these is the table printed in Appendix A.3 of the protocol document, but for the entry of 5Ah, which is misprinted there: it
+// is the older edition's.
+//
+// Then it reads calls as hexadecimal text, a line each, and prints what the calls under the others answer. A line that starts with # is
 // printed as it is. Any other is call, two numbers a and b of eight bytes, low byte first, then bytes:
 // - 01 within: a the length, b the place, the first eight bytes how many
 // - 02 byte_at: place a of the bytes
@@ -366,7 +370,27 @@ fn line(s: &[u8]) {
     call(&bytes[0..n]);
 }
 
+fn show_register(register: u16) {
+    io::print_hex(1, register as u64, 4);
+    io::write_all(1, b"\n");
+}
+
+fn entry(b: u8) {
+    let one = [b];
+    show_register(checksum::after_slice(0, &one));
+}
+
+fn show_published() {
+    show_register(checksum::after_slice(0, b"123456789"));
+    let mut i: usize = 0;
+    while i < 256 {
+        entry(i as u8);
+        i += 1;
+    }
+}
+
 fn main() {
+    show_published();
     let mut buf = io::large_buffer();
     let n = io::read_full(0, &mut buf);
     let s = &buf[..n];

@@ -11,6 +11,9 @@ Inv-loop n s at₀ at = (at ≤ length s)
 abbrev μ-loop : tie.MeasureT-loop
 μ-loop n s at₀ at = length s - at
 
+show-published-requires : tie.Need-show-published-requires Inv-loop μ-loop
+show-published-requires c κs = tt
+
 large-buffer-requires : tie.Need-large-buffer-requires Inv-loop μ-loop
 large-buffer-requires c κs = tt
 
@@ -65,6 +68,7 @@ main-spec =
     (tie.spec
     Inv-loop
     μ-loop
+    show-published-requires
     large-buffer-requires
     slice-aggregate-read-full
     read-full-requires

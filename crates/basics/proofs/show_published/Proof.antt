@@ -1,8 +1,8 @@
--- `vectors::main`: each turn goes on.
+-- `basics::show_published`: each turn goes on.
 use Prim.Native.Nat.{_-_, _≤_}
 use borrow.Author.Needs.{needs}
-use Rattle.vectors.proofs.main.Statement.{statement}
-use Rattle.vectors.proofs.main.Tie as tie
+use Rattle.basics.proofs.show_published.Statement.{statement}
+use Rattle.basics.proofs.show_published.Tie as tie
 
 abbrev Inv-loop : tie.InvT-loop
 Inv-loop i₀ i = (i ≤ 256)
@@ -16,8 +16,8 @@ slice-aggregate-after-slice c = search needs
 after-slice-requires : tie.Need-after-slice-requires Inv-loop μ-loop
 after-slice-requires c κs = tt
 
-show-requires : tie.Need-show-requires Inv-loop μ-loop
-show-requires c κs = tt
+show-register-requires : tie.Need-show-register-requires Inv-loop μ-loop
+show-register-requires c κs = tt
 
 loop-holds : tie.Need-loop-holds Inv-loop μ-loop
 loop-holds c = search needs
@@ -40,15 +40,15 @@ loop-again c = search needs
 returns : tie.Need-returns Inv-loop μ-loop
 returns c = search needs
 
-pub main-spec : {M : Type 1} → statement M
-main-spec =
+pub show-published-spec : {M : Type 1} → statement M
+show-published-spec =
     tie.close
     (tie.spec
     Inv-loop
     μ-loop
     slice-aggregate-after-slice
     after-slice-requires
-    show-requires
+    show-register-requires
     loop-holds
     cast-entry
     entry-requires
