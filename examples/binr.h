@@ -9,6 +9,10 @@
 #include <stddef.h>
 #include <stdint.h>
 
+#ifdef __cplusplus
+extern "C" {
+#endif
+
 /* The listing of the bytes, as listoff (mode 0) and liston (mode 1) print it. -1: the mode. -13: the buffer. */
 int64_t binr_list(uint8_t mode, const uint8_t *bytes, size_t length, uint8_t *out, size_t room);
 
@@ -20,5 +24,9 @@ uint8_t binr_judge(uint8_t id, const uint8_t *data, size_t length);
 
 /* How many events the bytes raise. */
 uint64_t binr_count(uint8_t mode, const uint8_t *bytes, size_t length);
+
+#ifdef __cplusplus
+}
+#endif
 
 #endif
