@@ -262,7 +262,7 @@ fn show_head(h: Head) {
     word(h.pending);
 }
 
-fn show_data(array: &[u8; 1024], n: usize) {
+fn show_data(array: &[u8; Reader::CAPACITY], n: usize) {
     io::write_all(1, b" ");
     octets(array, n);
 }
@@ -271,7 +271,7 @@ fn run_in_place(d: &[u8]) {
     if d.len() < 9 {
         return;
     }
-    let mut array = [0x5Au8; 1024];
+    let mut array = [0x5Au8; Reader::CAPACITY];
     let f = Reader::fresh(0);
     let h = head_of(d);
     let x = reader::feed_in_place(h, f.reader.latest, &mut array, &d[9..]);

@@ -28,7 +28,7 @@ fn octet(loud: bool, sum: u64, n: u8) -> u64 {
     note(loud, sum, n as u64)
 }
 
-fn count(loud: bool, sum: u64, n: u32) -> u64 {
+fn count(loud: bool, sum: u64, n: record::Count) -> u64 {
     note(loud, sum, n as u64)
 }
 

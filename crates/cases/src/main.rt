@@ -30,7 +30,7 @@ fn octet(n: u8) {
     number(n as u64);
 }
 
-fn count(n: u32) {
+fn count(n: record::Count) {
     number(n as u64);
 }
 
@@ -159,7 +159,7 @@ fn record_of(s: &[u8], rest: &[u8], n: usize) -> Reader {
     octet(f.refusal);
     let h = head_of(s);
     let l = latest::store(f.reader.latest, octets::byte_at(s, 30), rest, n);
-    let mut bytes = [0u8; 1024];
+    let mut bytes = [0u8; Reader::CAPACITY];
     bytes[0] = octets::byte_at(s, 28);
     bytes[1] = octets::byte_at(s, 29);
     Reader {

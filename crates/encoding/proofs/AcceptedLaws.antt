@@ -11,7 +11,7 @@ use borrow.Author.Tests.{eqb-true}
 use lib.Dec.{eqb}
 use lib.ListN.{length, drop}
 use lib.Seq.{drop-cons, drop-length}
-use Rattle.ranges.specs.Ranges.{byte}
+use Rattle.octets.specs.Bytes.{byte}
 use Rattle.kinds.specs.Kinds.{Row, table, rowIn, oneOf, only, allows, lengthOk, content}
 
 -- the refusal, by its length and its ranges
@@ -46,10 +46,6 @@ one-length id a f d row h = elim (two-lengths id a a f d row h) [ inl e ↦ e | 
 pub either : (P : ℕ → Type 0) (id x : ℕ) (t : Bool) → P x → (t ≡ true → P id) → t || eqb id x ≡ true → P id
 either P id x true p rest e = rest refl
 either P id x false p rest e = rw (eqb-true id x e) p
-
--- the data's numbers are bytes
-abbrev pub Bytes : List ℕ → Type 0
-Bytes d = (i : ℕ) → i < length d → byte d i < 256
 
 -- the n bytes from i on, one by one
 abbrev pub spell : List ℕ → ℕ → ℕ → List ℕ

@@ -14,9 +14,9 @@ use lib.Seq.{set-at, append-snoc, take-all, take-add, take-suc, take-append-le, 
 use lib.Seq.{drop-append-le, drop-at, drop-drop, getD-at, getD-take, getD-drop}
 use Rattle.octets.specs.Placing.{placed}
 use Rattle.octets.proofs.PlacingLaws.{length-placed, placed-more, placed-fits}
-use Rattle.ranges.specs.Ranges.{byte}
+use Rattle.octets.specs.Bytes.{byte, Bytes}
 use Rattle.kinds.specs.Kinds.{table, rowIn, entries, allows, lengthOk, content}
-use Rattle.encoding.proofs.AcceptedLaws.{Bytes, accepted-parts}
+use Rattle.encoding.proofs.AcceptedLaws.{accepted-parts}
 use Rattle.encoding.specs.Entries.{Series, firsts, laidOut, entrySlice, entriesOf, entriesData, keptEntries}
 
 length-firsts : {A : Type 0} (f : ℕ → A) (n : ℕ) → length (firsts f n) ≡ n

@@ -12,7 +12,7 @@ use Rattle.octets.specs.declared.Written.{Written}
 use Rattle.kinds.specs.Kinds.{content}
 use Rattle.encoding.specs.Encoding.{encodedOf, encodedInto}
 use Rattle.encoding.specs.RoundTrip.{EncodeDecode, DecodeEncode}
-use Rattle.encoding.proofs.AcceptedLaws.{Bytes}
+use Rattle.octets.specs.Bytes.{Bytes}
 use Rattle.encoding.proofs.DecodedLaws.{answered}
 
 module _ {T D : Type 0} (id : ℕ) (dataOf : T → List ℕ) (decodedOf : List ℕ → D) (holding : T → D) where

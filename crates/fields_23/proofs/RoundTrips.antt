@@ -15,7 +15,8 @@ use Rattle.numbers.specs.Number.{bytesOf, numberAt}
 use Rattle.numbers.specs.Signed.{signed}
 use Rattle.kinds.specs.Kinds.{table, rowIn, content}
 use Rattle.encoding.specs.RoundTrip.{EncodeDecode, DecodeEncode}
-use Rattle.encoding.proofs.AcceptedLaws.{Bytes, two-lengths}
+use Rattle.encoding.proofs.AcceptedLaws.{two-lengths}
+use Rattle.octets.specs.Bytes.{Bytes}
 use Rattle.encoding.proofs.RoundTripLaws as laws
 use Rattle.rows.specs.Layout.{AllHeld, INT8S, joined}
 use Rattle.rows.proofs.RowLaws.{int, readRows, widths, read-joined, joined-read}

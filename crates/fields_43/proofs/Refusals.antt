@@ -5,7 +5,8 @@ use mathlib.Core.List.{List}
 use Prim.Native.Nat.{ℕ}
 use native.Mathlib.Omega.{arith}
 use Rattle.numbers.proofs.NumberLaws.{number-one}
-use Rattle.ranges.specs.Ranges.{byte, antenna}
+use Rattle.ranges.specs.Ranges.{antenna}
+use Rattle.octets.specs.Bytes.{byte}
 use Rattle.kinds.specs.Kinds.{table, rowIn, allows, lengthOk, content}
 use Rattle.octets.specs.Delivery.{refused}
 use Rattle.octets.proofs.DeliveryLaws.{refused-by}

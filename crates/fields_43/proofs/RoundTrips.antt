@@ -11,11 +11,12 @@ use lib.ListN.{length}
 use Rattle.numbers.specs.Number.{bytesOf}
 use Rattle.numbers.specs.Types.{int8uAt}
 use Rattle.numbers.proofs.NumberLaws.{number-one}
-use Rattle.ranges.specs.Ranges.{all, byte, antenna, in43}
+use Rattle.ranges.specs.Ranges.{all, antenna, in43}
+use Rattle.octets.specs.Bytes.{byte, Bytes}
 use Rattle.ranges.proofs.CountLaws.{all-at}
 use Rattle.kinds.specs.Kinds.{table, rowIn, only, allows, lengthOk, content}
 use Rattle.encoding.specs.RoundTrip.{EncodeDecode, DecodeEncode}
-use Rattle.encoding.proofs.AcceptedLaws.{Bytes, accepted-parts, one-length}
+use Rattle.encoding.proofs.AcceptedLaws.{accepted-parts, one-length}
 use Rattle.encoding.proofs.RoundTripLaws as laws
 use Rattle.rows.specs.Layout.{INT8U, joined}
 use Rattle.rows.proofs.RowLaws.{nat, readRows, widths, read-joined, joined-read}

@@ -4,7 +4,7 @@ use mathlib.Core.List.{List, [], _∷_}
 use Prim.Native.Nat.{ℕ}
 use lib.Dec.{eqb}
 use lib.ListN.{replicate}
-use Rattle.ranges.specs.Ranges.{byte}
+use Rattle.octets.specs.Bytes.{byte}
 use Rattle.kinds.specs.Kinds.{content}
 use Rattle.encoding.specs.Entries.{Series, entriesOf, entriesData}
 use Rattle.fields_47.specs.declared.Use.{Use}

@@ -9,10 +9,11 @@ use lib.Dec.{eqb, leb}
 use lib.ListN.{length}
 use Rattle.numbers.specs.Types.{int8uAt}
 use Rattle.numbers.proofs.NumberLaws.{number-one}
-use Rattle.ranges.specs.Ranges.{byte, in49}
+use Rattle.ranges.specs.Ranges.{in49}
+use Rattle.octets.specs.Bytes.{byte, Bytes}
 use Rattle.kinds.specs.Kinds.{table, rowIn, oneOf, allows, chosen49, lengthOk, content}
 use Rattle.encoding.specs.RoundTrip.{EncodeDecode, DecodeEncode}
-use Rattle.encoding.proofs.AcceptedLaws.{Bytes, accepted-parts}
+use Rattle.encoding.proofs.AcceptedLaws.{accepted-parts}
 use Rattle.encoding.proofs.DecodedLaws.{answered}
 use Rattle.encoding.proofs.RoundTripLaws as laws
 use Rattle.rows.specs.Layout.{AllHeld, joined}

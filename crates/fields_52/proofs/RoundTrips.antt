@@ -16,11 +16,11 @@ use Rattle.numbers.proofs.SignedLaws.{signed-unsigned, unsigned-signed}
 use Rattle.octets.specs.Placing.{placed}
 use Rattle.octets.specs.Delivery.{accepted, writtenOf, filledOf}
 use Rattle.octets.specs.declared.Written.{Written}
-use Rattle.ranges.specs.Ranges.{byte}
+use Rattle.octets.specs.Bytes.{byte, Bytes}
 use Rattle.kinds.specs.Kinds.{content}
 use Rattle.encoding.specs.Entries.{entrySlice, entriesOf, keptEntries}
 use Rattle.encoding.proofs.CallLaws.{cond-zero, call-back, call-writes}
-use Rattle.encoding.proofs.AcceptedLaws.{Bytes, spelled}
+use Rattle.encoding.proofs.AcceptedLaws.{spelled}
 use Rattle.encoding.proofs.EntryLaws.{entry-length, entry-bytes, length-entries, read-laid, laid-read}
 use Rattle.fields_52.specs.declared.Entry.{Entry}
 use Rattle.fields_52.specs.declared.Visible.{Visible}

@@ -7,7 +7,7 @@ use lib.IntN.{pos}
 use lib.ListN.{length, replicate}
 use Rattle.numbers.specs.Number.{numberAt}
 use Rattle.numbers.specs.Signed.{int8, unsigned}
-use Rattle.ranges.specs.Ranges.{byte}
+use Rattle.octets.specs.Bytes.{byte}
 use Rattle.kinds.specs.Kinds.{content}
 use Rattle.encoding.specs.Entries.{Series, entriesOf, entriesData}
 use Rattle.fields_52.specs.declared.Entry.{Entry}

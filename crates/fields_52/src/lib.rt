@@ -132,7 +132,7 @@ pub fn encode_52(f: Visible, buf: &mut [u8]) -> octets::Written
     let entries = f.entries;
     if 75 < n {
         return octets::Written {
-            refusal: 11,
+            refusal: refusals::LENGTH,
             length: 0,
         };
     }

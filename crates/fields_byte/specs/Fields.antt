@@ -4,7 +4,7 @@ use mathlib.Core.List.{List, [], _∷_}
 use Prim.Native.Nat.{ℕ}
 use lib.Dec.{eqb, leb}
 use lib.ListN.{length, take}
-use Rattle.ranges.specs.Ranges.{byte}
+use Rattle.octets.specs.Bytes.{byte}
 use Rattle.kinds.specs.Kinds.{content}
 use Rattle.fields_byte.specs.declared.OneByte.{OneByte}
 use Rattle.fields_byte.specs.declared.Decoded.{Decoded}

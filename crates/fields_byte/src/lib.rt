@@ -46,7 +46,7 @@ fn judge(inside: bool, id: u8, body: &[u8]) -> u8
     if inside {
         return kinds::content(id, body);
     }
-    10
+    refusals::UNLISTED
 }
 
 // Whether data of a kind without data is acceptable.
@@ -92,14 +92,14 @@ pub fn encode_one_byte(id: u8, f: OneByte, buf: &mut [u8]) -> Written
 {
     if !one_byte_kind(id) {
         return Written {
-            refusal: 10,
+            refusal: refusals::UNLISTED,
             length: 0,
         };
     }
     let count = f.count;
     if 1 < count {
         return Written {
-            refusal: 11,
+            refusal: refusals::LENGTH,
             length: 0,
         };
     }

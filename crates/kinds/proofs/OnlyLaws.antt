@@ -8,7 +8,8 @@ use native.Mathlib.Omega.{arith}
 use borrow.Author.Tests.{eqb-true}
 use lib.Dec.{eqb}
 use lib.ListN.{length}
-use Rattle.ranges.specs.Ranges.{byte, free, in43, in46, inEB}
+use Rattle.ranges.specs.Ranges.{free, in43, in46, inEB}
+use Rattle.octets.specs.Bytes.{byte}
 use Rattle.kinds.specs.Kinds.{only, table, rowIn, allows, chosen49, lengthOk, judged, content, oneLength, lengthOf}
 
 module _ (id n : ℕ) (f : List ℕ → Bool) (row : rowIn table id ≡ some (only id n f)) (plain : eqb id 0x49 ≡ false) where

@@ -8,7 +8,8 @@ use lib.ListN.{length}
 use Rattle.kinds.specs.declared.Kind.{Kind}
 use Rattle.kinds.specs.declared.Listed.{Listed}
 use Rattle.kinds.specs.declared.Listed.the-variants.{As, Nothing}
-use Rattle.ranges.specs.Ranges.{byte, free, in1F, in20, in23, in43, in46, in47, in49, inEB, in52}
+use Rattle.ranges.specs.Ranges.{free, in1F, in20, in23, in43, in46, in47, in49, inEB, in52}
+use Rattle.octets.specs.Bytes.{byte}
 
 -- a kind, and the ranges of its fields
 pub record Row : Type 0 where

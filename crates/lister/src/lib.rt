@@ -184,7 +184,7 @@ fn list_parts(r: Reader, s: &[u8], buf: &mut [u8], write: bool) -> Written
         let n = p.length;
         if buf.len() - to < n {
             return Written {
-                refusal: 13,
+                refusal: refusals::BUFFER,
                 length: 0,
             };
         }
@@ -196,7 +196,7 @@ fn list_parts(r: Reader, s: &[u8], buf: &mut [u8], write: bool) -> Written
             let m = w.length;
             if buf.len() - to < m {
                 return Written {
-                    refusal: 13,
+                    refusal: refusals::BUFFER,
                     length: 0,
                 };
             }

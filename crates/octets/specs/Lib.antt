@@ -1,3 +1,4 @@
+pub mod Bytes
 pub mod Placing
 pub mod Delivery
 pub mod Deciding

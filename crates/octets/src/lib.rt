@@ -2,7 +2,8 @@
 ghost use mathlib.Core.Path.{_≡_};
 ghost use Prim.Native.Nat.{_+_};
 ghost use lib.Dec.{leb};
-ghost use lib.ListN.{length, getD};
+ghost use lib.ListN.{length};
+ghost use Rattle.octets.specs.Bytes.{byte};
 ghost use Rattle.octets.specs.Placing.{fits, placed};
 ghost use Rattle.octets.specs.Delivery.{writtenOf, filledOf};
 
@@ -24,7 +25,7 @@ pub fn within(len: usize, at: usize, n: usize) -> bool
 
 // The byte at a place; 0 past the end.
 pub fn byte_at(s: &[u8], at: usize) -> u8
-    ensures { λ r. ⌜ r ≡ getD (now (s .entry)) at 0 ⌝ }
+    ensures { λ r. ⌜ r ≡ byte (now (s .entry)) at ⌝ }
 {
     if at < s.len() {
         return s[at];

@@ -8,7 +8,8 @@ use borrow.Author.Tests.{eqb-true, eqb-false, leb-true, eq-eqb}
 use borrow.Author.Count.{below-more}
 use lib.Bits.{bitOr}
 use lib.Dec.{eqb, leb}
-use Rattle.ranges.specs.Ranges.{byte, between, satellite, placeOf, count, all, once, in47}
+use Rattle.ranges.specs.Ranges.{between, satellite, placeOf, count, all, once, in47}
+use Rattle.octets.specs.Bytes.{byte}
 use Rattle.ranges.proofs.BitLaws.{bit, bit-zero, bit-set}
 use Rattle.ranges.proofs.CountLaws.{fails, never, all-at, all-of, count-more, count-same, count-le, each-once}
 

@@ -4,8 +4,9 @@ use mathlib.Core.List.{List}
 use Prim.Native.Nat.{ℕ, zero, suc, _+_, _-_, _*_, _/_, _%_}
 use lib.Dec.{eqb, leb, ltb}
 use lib.IntN.{ℤ, pos, negℤ}
-use lib.ListN.{length, getD, drop}
+use lib.ListN.{length, drop}
 use lib.Signed.{leZ}
+use Rattle.octets.specs.Bytes.{byte}
 use Rattle.numbers.specs.Number.{numberAt}
 use Rattle.numbers.specs.Signed.{int8}
 
@@ -15,9 +16,6 @@ between low high n = leb low n && leb n high
 -- from -low to high
 abbrev pub within : ℕ → ℕ → ℤ → Bool
 within low high z = leZ (negℤ (pos low)) z && leZ z (pos high)
-
-abbrev pub byte : List ℕ → ℕ → ℕ
-byte d i = getD d i 0
 
 abbrev pub int8At : List ℕ → ℕ → ℤ
 int8At d i = int8 (byte d i)

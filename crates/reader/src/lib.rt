@@ -81,7 +81,7 @@ fn skip(s: &[u8], from: usize, n: usize) -> usize
 }
 
 // Stores bytes four at a time, as long as none of the four is DLE.
-fn fill_fours(d: &mut [u8; 1024], len: usize, s: &[u8], from: usize) -> usize
+fn fill_fours(d: &mut [u8; Reader::CAPACITY], len: usize, s: &[u8], from: usize) -> usize
     requires { ⌜ (from ≤ length (now s)) × (len + (length (now s) - from) ≤ 1024) × (length (now d) ≡ 1024) ⌝ }
     ensures { λ r. ⌜ (r ≤ length (now (s .entry))) × Copied (now (d .entry)) (now (d .exit)) len (now (s .entry)) from r ⌝ }
 {
@@ -98,7 +98,7 @@ fn fill_fours(d: &mut [u8; 1024], len: usize, s: &[u8], from: usize) -> usize
 }
 
 // Stores bytes until a DLE, n or 1,024 held.
-fn fill(d: &mut [u8; 1024], len: usize, s: &[u8], from: usize, n: usize) -> usize
+fn fill(d: &mut [u8; Reader::CAPACITY], len: usize, s: &[u8], from: usize, n: usize) -> usize
     requires { ⌜ (len ≤ 1024) × (from ≤ n) × (n ≤ length (now s)) × (length (now d) ≡ 1024) ⌝ }
     ensures { λ r. ⌜ Fills (now (d .entry)) (now (d .exit)) len (now (s .entry)) from n r ⌝ }
 {
@@ -243,7 +243,7 @@ fn in_wd(m: Moving, b: u8, at: usize, n: usize) -> Moved
 }
 
 // F: bytes of data, up to a DLE or one too many.
-fn in_f(m: Moving, d: &mut [u8; 1024], s: &[u8], at: usize, n: usize) -> Moved
+fn in_f(m: Moving, d: &mut [u8; Reader::CAPACITY], s: &[u8], at: usize, n: usize) -> Moved
     requires { ⌜ (at < n) × (n ≤ length (now s)) × (m .place ≡ 2) × (length (now d) ≡ 1024) × Pends m (now d) ⌝ }
     requires { ⌜ Fits m at n ⌝ }
     ensures { λ r. ⌜ ((k : ℕ) → Goes k m (now (d .entry)) (now (d .exit)) (now (s .entry)) at n r) ⌝ }
@@ -275,7 +275,7 @@ fn in_f(m: Moving, d: &mut [u8; 1024], s: &[u8], at: usize, n: usize) -> Moved
 }
 
 // FD: a DLE of the data, an end, a checksum, or the start of another frame.
-fn in_fd(mode: u8, m: Moving, d: &mut [u8; 1024], b: u8, at: usize, n: usize) -> Moved
+fn in_fd(mode: u8, m: Moving, d: &mut [u8; Reader::CAPACITY], b: u8, at: usize, n: usize) -> Moved
     requires { ⌜ (1 ≤ at) × (at ≤ n) × (m .place ≡ 3) × (length (now d) ≡ 1024) × Pends m (now d) ⌝ }
     requires { ⌜ Fits m (at - 1) n ⌝ }
     ensures { λ r. ⌜ Moves mode m (now (d .entry)) (now (d .exit)) b at n r ⌝ }
@@ -377,7 +377,14 @@ fn in_ed(m: Moving, b: u8, at: usize, n: usize) -> Moved
 }
 
 // Bytes from one place on: at least one, up to n.
-fn advance(mode: u8, m: Moving, d: &mut [u8; 1024], s: &[u8], at: usize, n: usize) -> Moved
+fn advance(
+    mode: u8,
+    m: Moving,
+    d: &mut [u8; Reader::CAPACITY],
+    s: &[u8],
+    at: usize,
+    n: usize,
+) -> Moved
     requires { ⌜ (at < n) × (n ≤ length (now s)) × (length (now d) ≡ 1024) × Pends m (now d) ⌝ }
     requires { ⌜ Fits m at n × Sound mode m (now d) ⌝ }
     ensures { λ r. ⌜ Goes mode m (now (d .entry)) (now (d .exit)) (now (s .entry)) at n r ⌝ }
@@ -398,7 +405,7 @@ fn advance(mode: u8, m: Moving, d: &mut [u8; 1024], s: &[u8], at: usize, n: usiz
 }
 
 // Bytes up to n, or up to the first event.
-fn run(mode: u8, m0: Moving, d: &mut [u8; 1024], s: &[u8], n: usize) -> Moved
+fn run(mode: u8, m0: Moving, d: &mut [u8; Reader::CAPACITY], s: &[u8], n: usize) -> Moved
     requires { ⌜ (n ≤ length (now s)) × (length (now d) ≡ 1024) × Pends m0 (now d) ⌝ }
     requires { ⌜ Fits m0 0 n × Sound mode m0 (now d) ⌝ }
     ensures { λ r. ⌜ Ran mode m0 (now (d .entry)) (now (d .exit)) (now (s .entry)) n r ⌝ }
@@ -612,7 +619,7 @@ fn refuse(h: Head, l: Latest, v: u8) -> InPlace
 }
 
 // The slice call on a record whose array stays where it is. A message's data are the array's first `len` bytes.
-pub fn feed_in_place(h: Head, l: Latest, d: &mut [u8; 1024], s: &[u8]) -> InPlace
+pub fn feed_in_place(h: Head, l: Latest, d: &mut [u8; Reader::CAPACITY], s: &[u8]) -> InPlace
     ensures { λ x. ⌜ InPlacePost h l (now (d .entry)) (now (d .exit)) (now (s .entry)) x ⌝ }
 {
     let m = start(h);

@@ -6,7 +6,7 @@ use Prim.Native.Nat.{ℕ, _+_, _*_, _-_, _≤_, _<_}
 use native.Mathlib.Omega.{arith}
 use borrow.Author.Count.{below-more}
 use borrow.Author.Tests.{eqb-true, eq-eqb}
-use Rattle.ranges.specs.Ranges.{byte}
+use Rattle.octets.specs.Bytes.{byte}
 use Rattle.ranges.proofs.CountLaws.{never}
 use Rattle.encoding.specs.Entries.{entrySlice}
 use Rattle.encoding.proofs.EntryLaws.{entry-byte}

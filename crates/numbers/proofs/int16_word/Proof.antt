@@ -1,4 +1,4 @@
--- `signed::int16_word` meets its contract: the laws of the two signs, at its width.
+-- `numbers::int16_word` meets its contract: the laws of the two signs, at its width.
 use native.Mathlib.Omega.{arith}
 use mir.Syntax.{w16}
 use Rattle.numbers.proofs.SignedLaws.{Positive, positive, Negative, negative}

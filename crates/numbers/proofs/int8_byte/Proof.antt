@@ -1,4 +1,4 @@
--- `signed::int8_byte` meets its contract: the laws of the two signs, at its width.
+-- `numbers::int8_byte` meets its contract: the laws of the two signs, at its width.
 use native.Mathlib.Omega.{arith}
 use mir.Syntax.{w8}
 use Rattle.numbers.proofs.SignedLaws.{Positive, positive, Negative, negative}

@@ -1,4 +1,4 @@
--- `framing::advance` meets its contract: each place by its function.
+-- `reader::advance` meets its contract: each place by its function.
 use mathlib.Core.Path.{_≡_, refl, ap, _∙_}
 use mathlib.Core.List.{List}
 use Prim.Native.Nat.{ℕ, _-_, _≤_}

@@ -1,4 +1,4 @@
--- `framing::fill` meets its contract: the bytes passed are stored, and none is DLE.
+-- `reader::fill` meets its contract: the bytes passed are stored, and none is DLE.
 use mathlib.Core.Path.{_≡_, sym}
 use Prim.Native.Nat.{_+_, _-_, _≤_, _<_}
 use native.Mathlib.Omega.{arith}

@@ -1,4 +1,4 @@
--- `framing::fill_fours` meets its contract: four bytes a turn, none of them DLE.
+-- `reader::fill_fours` meets its contract: four bytes a turn, none of them DLE.
 use mathlib.Core.Bool.{true}
 use mathlib.Core.Path.{_≡_, refl, sym, _∙_}
 use Prim.Native.Nat.{_-_, _≤_}

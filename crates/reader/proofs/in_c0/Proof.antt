@@ -1,4 +1,4 @@
--- `framing::in_c0` meets its contract: the table in C0.
+-- `reader::in_c0` meets its contract: the table in C0.
 use mathlib.Core.Path.{refl, sym, subst}
 use Prim.Native.Nat.{_-_}
 use native.Mathlib.Omega.{arith}

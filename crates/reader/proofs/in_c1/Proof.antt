@@ -1,4 +1,4 @@
--- `framing::in_c1` meets its contract: the table in C1.
+-- `reader::in_c1` meets its contract: the table in C1.
 use mathlib.Core.Path.{refl, sym, subst}
 use Prim.Native.Nat.{_-_}
 use native.Mathlib.Omega.{arith}

@@ -1,4 +1,4 @@
--- `framing::in_e` meets its contract: the table in E.
+-- `reader::in_e` meets its contract: the table in E.
 use mathlib.Core.Path.{_≡_, refl, sym, ap, _∙_, subst}
 use Prim.Native.Nat.{ℕ, _+_, _-_}
 use native.Mathlib.Omega.{arith}

@@ -1,4 +1,4 @@
--- `framing::in_ed` meets its contract: the table in ED.
+-- `reader::in_ed` meets its contract: the table in ED.
 use mathlib.Core.Path.{_≡_, refl, sym, ap, _∙_, subst}
 use Prim.Native.Nat.{_+_, _-_}
 use native.Mathlib.Omega.{arith}

@@ -1,4 +1,4 @@
--- `framing::in_f` meets its contract: the bytes stored raise nothing, and then a DLE, a byte too many or the end.
+-- `reader::in_f` meets its contract: the bytes stored raise nothing, and then a DLE, a byte too many or the end.
 use mathlib.Core.Path.{_≡_, refl, sym, ap, _∙_, subst, subst⁻¹}
 use mathlib.Core.List.{List}
 use Prim.Native.Nat.{ℕ, _+_, _-_, _≤_}

@@ -1,4 +1,4 @@
--- `framing::in_fd` meets its contract: the table in FD.
+-- `reader::in_fd` meets its contract: the table in FD.
 use mathlib.Core.Path.{_≡_, refl, sym, ap, _∙_, subst}
 use Prim.Native.Nat.{_+_, _-_, _≤_}
 use native.Mathlib.Omega.{arith}

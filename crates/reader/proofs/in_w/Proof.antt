@@ -1,4 +1,4 @@
--- `framing::in_w` meets its contract: the bytes skipped raise nothing, and then a DLE or the end.
+-- `reader::in_w` meets its contract: the bytes skipped raise nothing, and then a DLE or the end.
 use mathlib.Core.Path.{_≡_, refl, sym, ap, _∙_, subst, subst⁻¹}
 use mathlib.Core.List.{List}
 use Prim.Native.Nat.{ℕ, _+_, _-_}

@@ -1,4 +1,4 @@
--- `framing::in_wd` meets its contract: the table in WD.
+-- `reader::in_wd` meets its contract: the table in WD.
 use mathlib.Core.Path.{refl, sym, ap, _∙_, subst}
 use Prim.Native.Nat.{_-_}
 use borrow.Author.Needs.{needs}

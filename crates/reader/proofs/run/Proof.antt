@@ -1,4 +1,4 @@
--- `framing::run` meets its contract: the invariant says what is left to do.
+-- `reader::run` meets its contract: the invariant says what is left to do.
 use mathlib.Core.Path.{_≡_, sym, subst}
 use Prim.Native.Nat.{_+_, _-_, _≤_}
 use native.Mathlib.Omega.{arith}

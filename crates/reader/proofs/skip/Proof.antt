@@ -1,4 +1,4 @@
--- `framing::skip` meets its contract: no byte passed is DLE.
+-- `reader::skip` meets its contract: no byte passed is DLE.
 use Prim.Native.Nat.{_-_, _≤_}
 use denote.Ref.{now}
 use native.Mathlib.Omega.{arith}

@@ -1,4 +1,4 @@
--- `framing::start` meets its contract: by whether the place has data.
+-- `reader::start` meets its contract: by whether the place has data.
 use borrow.Author.Tests.{lt-ltb, le-ltb}
 use Rattle.reader.proofs.start.Statement.{statement}
 use Rattle.reader.proofs.start.Tie as tie
