@@ -24,7 +24,7 @@ use Rattle.line.specs.Record.Place.{at as on}
 use Rattle.line.proofs.Classes.{dle-is}
 use Rattle.line.proofs.Reading.{is}
 use Rattle.record.specs.View.{placeOf}
-use Rattle.reader.specs.Moving.{NoDle, Copied, Base, one, see, ahead, Pends}
+use Rattle.reader.specs.Moving.{movingOf, NoDle, Copied, Base, one, see, ahead, Pends}
 use Rattle.reader.specs.declared.Moving.{Moving}
 use Rattle.reader.proofs.Stepping.{one-by}
 use Rattle.record.proofs.Data.{tested}
@@ -294,12 +294,12 @@ see-within k z m a f p =
 -- the moving numbers after bytes outside
 abbrev pub outer : Moving → ℕ → Moving
 outer m j =
-    record { place = m .place; id = m .id; c1 = m .c1; c2 = m .c2; len = m .len; outside = m .outside + j; pending = m .pending }
+    movingOf (m .place) (m .id) (m .c1) (m .c2) (m .len) (m .outside + j) (m .pending)
 
 -- and after bytes of data
 abbrev pub inner : Moving → ℕ → Moving
 inner m j =
-    record { place = m .place; id = m .id; c1 = m .c1; c2 = m .c2; len = m .len + j; outside = m .outside; pending = m .pending + j }
+    movingOf (m .place) (m .id) (m .c1) (m .c2) (m .len + j) (m .outside) (m .pending + j)
 
 -- bytes outside raise nothing
 pub silent-wait : (k : ℕ) (m : Moving) (a s : List ℕ) (at to n : ℕ) → m .place ≡ 0 → m .pending ≡ 0 → at ≤ to → to ≤ n → n ≤ length s

@@ -119,3 +119,8 @@ pub record Ready (r : Reader) (a s : List ℕ) (t : Moved) : Type 0 where
 -- a call that one of questions 1 to 3 refuses
 abbrev pub refusedBy : Head → Latest → ℕ → InPlace
 refusedBy h l v = record { head = h; latest = l; event = Refusal v; id = 0; len = 0; closed = 0; taken = 0 }
+
+-- a call that took bytes
+abbrev pub givenBy : Closed → Latest → ℕ → InPlace
+givenBy o l n =
+    record { head = o .head; latest = l; event = o .event; id = o .id; len = o .len; closed = o .closed; taken = n }

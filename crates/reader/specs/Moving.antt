@@ -58,18 +58,13 @@ pub record Base : Type 0 where
 abbrev pub baseOf : Head → (Kept → Option (List ℕ)) → Base
 baseOf h l = record { accepted = h .accepted; refused = h .refused; fed = h .fed; latest = l }
 
+-- the moving numbers, one by one
+abbrev pub movingOf : ℕ → ℕ → ℕ → ℕ → ℕ → ℕ → ℕ → Moving
+movingOf p i x y l o h = record { place = p; id = i; c1 = x; c2 = y; len = l; outside = o; pending = h }
+
 -- the moving numbers of a head: a length that has no meaning is 0
 abbrev pub startOf : Head → Moving
-startOf h =
-    record {
-      place = h .place;
-      id = h .id;
-      c1 = h .c1;
-      c2 = h .c2;
-      len = cond (ltb (h .place) 2) 0 (h .len);
-      outside = h .outside;
-      pending = h .pending;
-    }
+startOf h = movingOf (h .place) (h .id) (h .c1) (h .c2) (cond (ltb (h .place) 2) 0 (h .len)) (h .outside) (h .pending)
 
 abbrev pub placeNow : Moving → List ℕ → Place
 placeNow m a = placeOf (m .place) (m .id) (take (m .len) a) (m .c1) (m .c2)
@@ -202,7 +197,7 @@ pub record Ran (k : ℕ) (m : Moving) (a a′ s : List ℕ) (n : ℕ) (t : Moved
 abbrev pub went : Moving → ℕ → ℕ → Moved
 went m p at =
     record {
-      now = record { place = p; id = m .id; c1 = m .c1; c2 = m .c2; len = m .len; outside = m .outside; pending = m .pending + 1 };
+      now = movingOf p (m .id) (m .c1) (m .c2) (m .len) (m .outside) (m .pending + 1);
       act = Quiet;
       last = 0;
       at = at;
@@ -211,7 +206,7 @@ went m p at =
 abbrev pub passed : Moving → ℕ → Moved
 passed m at =
     record {
-      now = record { place = 0; id = m .id; c1 = m .c1; c2 = m .c2; len = m .len; outside = m .outside + 2; pending = 0 };
+      now = movingOf 0 (m .id) (m .c1) (m .c2) (m .len) (m .outside + 2) 0;
       act = Quiet;
       last = 0;
       at = at;
@@ -220,7 +215,7 @@ passed m at =
 abbrev pub opened : Moving → ℕ → ℕ → Moved
 opened m b at =
     record {
-      now = record { place = 2; id = b; c1 = m .c1; c2 = m .c2; len = 0; outside = m .outside; pending = m .pending + 1 };
+      now = movingOf 2 b (m .c1) (m .c2) 0 (m .outside) (m .pending + 1);
       act = Quiet;
       last = 0;
       at = at;
@@ -229,7 +224,7 @@ opened m b at =
 abbrev pub shut : Moving → Act → ℕ → ℕ → Moved
 shut m x b at =
     record {
-      now = record { place = m .place; id = m .id; c1 = m .c1; c2 = m .c2; len = m .len; outside = m .outside; pending = m .pending + 1 };
+      now = movingOf (m .place) (m .id) (m .c1) (m .c2) (m .len) (m .outside) (m .pending + 1);
       act = x;
       last = b;
       at = at;

@@ -15,8 +15,8 @@ ghost use lib.ListN.{length, take};
 ghost use Rattle.line.specs.Frame.{modeOf, judge as judgeOf};
 ghost use Rattle.line.specs.Record.{limit, Kept};
 ghost use Rattle.record.specs.Posts.{InPlacePost};
-ghost use Rattle.reader.specs.Moving.{Skips, Copied, Fills, Fits, Pends, Sound, Moves, Goes, Ran, Busy, went, passed, opened, shut as shutOf, startOf, turned, baseOf};
-ghost use Rattle.reader.specs.Closing.{Finishes, headWith, resumed, reopenedBy, concludedBy, concluded, refusedBy};
+ghost use Rattle.reader.specs.Moving.{movingOf, Skips, Copied, Fills, Fits, Pends, Sound, Moves, Goes, Ran, Busy, went, passed, opened, shut as shutOf, startOf, turned, baseOf};
+ghost use Rattle.reader.specs.Closing.{Finishes, headWith, resumed, reopenedBy, concludedBy, concluded, refusedBy, givenBy};
 
 // The numbers that move in a slice call.
 pub struct Moving {
@@ -42,6 +42,28 @@ pub struct Moved {
     pub act: Act,
     pub last: u8,
     pub at: usize,
+}
+
+fn moving_of(
+    place: u8,
+    id: u8,
+    c1: u8,
+    c2: u8,
+    len: usize,
+    outside: Count,
+    pending: Count,
+) -> Moving
+    ensures { λ r. ⌜ r ≡ movingOf place id c1 c2 len outside pending ⌝ }
+{
+    Moving {
+        place: place,
+        id: id,
+        c1: c1,
+        c2: c2,
+        len: len,
+        outside: outside,
+        pending: pending,
+    }
 }
 
 // How many bytes of n can be counted.
@@ -120,15 +142,7 @@ fn go(m: Moving, p: u8, at: usize) -> Moved
     requires { ⌜ m .pending < limit ⌝ }
     ensures { λ r. ⌜ r ≡ went m p at ⌝ }
 {
-    let n = Moving {
-        place: p,
-        id: m.id,
-        c1: m.c1,
-        c2: m.c2,
-        len: m.len,
-        outside: m.outside,
-        pending: m.pending + 1,
-    };
+    let n = moving_of(p, m.id, m.c1, m.c2, m.len, m.outside, m.pending + 1);
     Moved {
         now: n,
         act: Act::Quiet,
@@ -142,15 +156,7 @@ fn pass_by(m: Moving, at: usize) -> Moved
     requires { ⌜ m .outside + 2 ≤ limit ⌝ }
     ensures { λ r. ⌜ r ≡ passed m at ⌝ }
 {
-    let n = Moving {
-        place: Reader::W,
-        id: m.id,
-        c1: m.c1,
-        c2: m.c2,
-        len: m.len,
-        outside: m.outside + 2,
-        pending: 0,
-    };
+    let n = moving_of(Reader::W, m.id, m.c1, m.c2, m.len, m.outside + 2, 0);
     Moved {
         now: n,
         act: Act::Quiet,
@@ -164,15 +170,7 @@ fn begin(m: Moving, b: u8, at: usize) -> Moved
     requires { ⌜ m .pending < limit ⌝ }
     ensures { λ r. ⌜ r ≡ opened m b at ⌝ }
 {
-    let n = Moving {
-        place: Reader::F,
-        id: b,
-        c1: m.c1,
-        c2: m.c2,
-        len: 0,
-        outside: m.outside,
-        pending: m.pending + 1,
-    };
+    let n = moving_of(Reader::F, b, m.c1, m.c2, 0, m.outside, m.pending + 1);
     Moved {
         now: n,
         act: Act::Quiet,
@@ -186,15 +184,7 @@ fn shut(m: Moving, act: Act, b: u8, at: usize) -> Moved
     requires { ⌜ m .pending < limit ⌝ }
     ensures { λ r. ⌜ r ≡ shutOf m act b at ⌝ }
 {
-    let n = Moving {
-        place: m.place,
-        id: m.id,
-        c1: m.c1,
-        c2: m.c2,
-        len: m.len,
-        outside: m.outside,
-        pending: m.pending + 1,
-    };
+    let n = moving_of(m.place, m.id, m.c1, m.c2, m.len, m.outside, m.pending + 1);
     Moved {
         now: n,
         act: act,
@@ -210,15 +200,8 @@ fn in_w(m: Moving, s: &[u8], at: usize, n: usize) -> Moved
     ensures { λ r. ⌜ ((k : ℕ) (a : List ℕ) → length a ≡ 1024 → Goes k m a a (now (s .entry)) at n r) ⌝ }
 {
     let to = skip(s, at, n);
-    let w = Moving {
-        place: m.place,
-        id: m.id,
-        c1: m.c1,
-        c2: m.c2,
-        len: m.len,
-        outside: m.outside + (to - at) as Count,
-        pending: m.pending,
-    };
+    let outside = m.outside + (to - at) as Count;
+    let w = moving_of(m.place, m.id, m.c1, m.c2, m.len, outside, m.pending);
     if to < n {
         return go(w, Reader::WD, to + 1);
     }
@@ -250,15 +233,16 @@ fn in_f(m: Moving, d: &mut [u8; Reader::CAPACITY], s: &[u8], at: usize, n: usize
 {
     let len = m.len;
     let to = fill(d, len, s, at, n);
-    let w = Moving {
-        place: m.place,
-        id: m.id,
-        c1: m.c1,
-        c2: m.c2,
-        len: len + (to - at),
-        outside: m.outside,
-        pending: m.pending + (to - at) as Count,
-    };
+    let pending = m.pending + (to - at) as Count;
+    let w = moving_of(
+        m.place,
+        m.id,
+        m.c1,
+        m.c2,
+        len + (to - at),
+        m.outside,
+        pending,
+    );
     if to < n {
         let b = s[to];
         if b == Reader::DLE {
@@ -286,15 +270,7 @@ fn in_fd(mode: u8, m: Moving, d: &mut [u8; Reader::CAPACITY], b: u8, at: usize, 
             let k = m.len;
             if k < Reader::CAPACITY {
                 d[k] = b;
-                let w = Moving {
-                    place: m.place,
-                    id: m.id,
-                    c1: m.c1,
-                    c2: m.c2,
-                    len: k + 1,
-                    outside: m.outside,
-                    pending: m.pending,
-                };
+                let w = moving_of(m.place, m.id, m.c1, m.c2, k + 1, m.outside, m.pending);
                 go(w, Reader::F, at)
             } else {
                 shut(m, Act::Refused(refusals::TOO_LONG), b, at)
@@ -320,15 +296,7 @@ fn in_c0(m: Moving, b: u8, at: usize, n: usize) -> Moved
     requires { ⌜ Fits m (at - 1) n ⌝ }
     ensures { λ r. ⌜ ((k : ℕ) (a : List ℕ) → length a ≡ 1024 → Pends m a → Moves k m a a b at n r) ⌝ }
 {
-    let w = Moving {
-        place: m.place,
-        id: m.id,
-        c1: b,
-        c2: m.c2,
-        len: m.len,
-        outside: m.outside,
-        pending: m.pending,
-    };
+    let w = moving_of(m.place, m.id, b, m.c2, m.len, m.outside, m.pending);
     go(w, Reader::C1, at)
 }
 
@@ -338,15 +306,7 @@ fn in_c1(m: Moving, b: u8, at: usize, n: usize) -> Moved
     requires { ⌜ Fits m (at - 1) n ⌝ }
     ensures { λ r. ⌜ ((k : ℕ) (a : List ℕ) → length a ≡ 1024 → Pends m a → Moves k m a a b at n r) ⌝ }
 {
-    let w = Moving {
-        place: m.place,
-        id: m.id,
-        c1: m.c1,
-        c2: b,
-        len: m.len,
-        outside: m.outside,
-        pending: m.pending,
-    };
+    let w = moving_of(m.place, m.id, m.c1, b, m.len, m.outside, m.pending);
     go(w, Reader::E, at)
 }
 
@@ -443,26 +403,11 @@ fn run(mode: u8, m0: Moving, d: &mut [u8; Reader::CAPACITY], s: &[u8], n: usize)
 fn start(h: Head) -> Moving
     ensures { λ r. ⌜ r ≡ startOf h ⌝ }
 {
+    let mut len = h.len;
     if h.place < Reader::F {
-        return Moving {
-            place: h.place,
-            id: h.id,
-            c1: h.c1,
-            c2: h.c2,
-            len: 0,
-            outside: h.outside,
-            pending: h.pending,
-        };
+        len = 0;
     }
-    Moving {
-        place: h.place,
-        id: h.id,
-        c1: h.c1,
-        c2: h.c2,
-        len: h.len,
-        outside: h.outside,
-        pending: h.pending,
-    }
+    moving_of(h.place, h.id, h.c1, h.c2, len, h.outside, h.pending)
 }
 
 // What an act comes to: the head, the answer's parts, and whether a message was given.
@@ -618,6 +563,23 @@ fn refuse(h: Head, l: Latest, v: u8) -> InPlace
     }
 }
 
+// The answer of a call that took bytes.
+fn give(o: Closed, l: Latest, taken: usize) -> InPlace
+    ensures { λ x. ⌜ x ≡ givenBy o l taken ⌝ }
+{
+    let h = o.head;
+    let e = o.event;
+    InPlace {
+        head: h,
+        latest: l,
+        event: e,
+        id: o.id,
+        len: o.len,
+        closed: o.closed,
+        taken: taken,
+    }
+}
+
 // The slice call on a record whose array stays where it is. A message's data are the array's first `len` bytes.
 pub fn feed_in_place(h: Head, l: Latest, d: &mut [u8; Reader::CAPACITY], s: &[u8]) -> InPlace
     ensures { λ x. ⌜ InPlacePost h l (now (d .entry)) (now (d .exit)) (now (s .entry)) x ⌝ }
@@ -630,19 +592,9 @@ pub fn feed_in_place(h: Head, l: Latest, d: &mut [u8; Reader::CAPACITY], s: &[u8
     let n = span(h.fed, s.len());
     let t = run(h.mode, m, d, s, n);
     let o = finish(h, t, d);
-    let g = o.head;
-    let e = o.event;
-    let mut last = l;
     if o.keep {
-        last = latest::store(l, o.id, d, o.len);
+        let last = latest::store(l, o.id, d, o.len);
+        return give(o, last, t.at);
     }
-    InPlace {
-        head: g,
-        latest: last,
-        event: e,
-        id: o.id,
-        len: o.len,
-        closed: o.closed,
-        taken: t.at,
-    }
+    give(o, l, t.at)
 }

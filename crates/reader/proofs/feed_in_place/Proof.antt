@@ -1,11 +1,12 @@
 -- `reader::feed_in_place` meets its contract: questions 1 to 3, then the bytes, then what they come to.
 use mathlib.Core.List.{List}
-use mathlib.Core.Path.{sym, ap, _∙_, subst}
+use mathlib.Core.Path.{_≡_, sym, ap, _∙_, subst}
 use Prim.Native.Nat.{ℕ}
 use lib.ListN.{take}
 use denote.Ref.{now}
-use Rattle.line.specs.Record.{Result}
+use Rattle.line.specs.Record.{Kept, Result}
 use Rattle.latest.specs.Latest.{latestOf}
+use Rattle.latest.specs.declared.Latest.{Latest}
 use Rattle.latest.proofs.Storing.{stored-acceptable}
 use Rattle.record.specs.View.{recordOf}
 use Rattle.record.specs.Posts.{InPlacePost, fedOf}
@@ -13,7 +14,7 @@ use Rattle.record.specs.declared.Reader.{Reader}
 use Rattle.record.specs.declared.InPlace.{InPlace}
 use Rattle.questions.specs.Question.{Valid}
 use Rattle.reader.specs.Moving.{Pends, Sound, Fits, Ran, resultOf}
-use Rattle.reader.specs.Closing.{Ready, storedBy}
+use Rattle.reader.specs.Closing.{Ready, storedBy, givenBy}
 use Rattle.reader.specs.declared.Moving.{Moving}
 use Rattle.reader.proofs.Beginning.{start-pends, start-sound, start-fits, ready-of}
 use Rattle.reader.proofs.Giving.{Comes, out, gives, refuses, answers}
@@ -35,6 +36,9 @@ valid i = i .before .question .ensures .valid (i .if1 .left)
 
 abbrev passed : tie.After-run → tie.Else1
 passed k = k .before .before .before
+
+abbrev ran : tie.After-finish → tie.After-run
+ran o = o .before .before .before
 
 -- the array afterwards
 abbrev left : tie.After-run → List ℕ
@@ -102,28 +106,45 @@ finish-requires c κs =
 store-requires : tie.Need-store-requires
 store-requires c κs = tt
 
+give-requires : tie.Need-give-requires
+give-requires c κs = tt
+
+give-requires-2 : tie.Need-give-requires-2
+give-requires-2 c κs = tt
+
+-- what is returned: the answer, with the latest messages as they are then
+gave : (o : tie.After-finish) (x : InPlace) (l : Latest) → x ≡ givenBy (o .finish .result) l (ran o .run .result .at)
+    → ((j : Kept) → latestOf l j ≡ storedBy (o .finish .result .keep) (o .finish .result .id) (take (o .finish .result .len) (left (ran o))) (latestOf (asked (passed (ran o)) .args .l)) j)
+    → InPlacePost (asked (passed (ran o)) .args .h) (asked (passed (ran o)) .args .l) (now (asked (passed (ran o)) .args .d)) (left (ran o)) (now (asked (passed (ran o)) .args .s)) x
+gave o x l e w =
+    let k = ran o in
+    let a = asked (passed k) .args in
+    subst (λ (y : InPlace). InPlacePost (a .h) (a .l) (now (a .d)) (left k) (now (a .s)) y) (sym e)
+    (given k (givenBy (o .finish .result) l (k .run .result .at))
+    (gives (recordOf (a .h) (a .l) (left k)) (k .run .result) (o .finish .result) l (o .finish .ensures (latestOf (a .l))) w))
+
 returns-2 : tie.Need-returns-2
 returns-2 c =
-    let t = c .before .before .before in
-    let o = t .before .before in
-    let k = o .before .before .before in
-    let x = asked (passed k) .args in
-    let z = o .finish .ensures (latestOf (x .l)) in
-    given k _
-    (gives (recordOf (x .h) (x .l) (left k)) (k .run .result) (o .finish .result) (c .store .result) z
+    let p = c .before in
+    let t = p .before .before .before in
+    let o = t .before in
+    let f = o .finish .result in
+    let l = latestOf (asked (passed (ran o)) .args .l) in
+    let d = take (f .len) (left (ran o)) in
+    gave o _ (p .store .result) (c .give .ensures)
     (λ j.
-    c .store .ensures j
-    ∙ stored-acceptable (o .finish .result .id) (take (o .finish .result .len) (left k)) (latestOf (x .l)) (z .good (t .if2 .taken)) j
-    ∙ ap (λ u. storedBy u (o .finish .result .id) (take (o .finish .result .len) (left k)) (latestOf (x .l)) j) (sym (t .if2 .taken))))
+    p .store .ensures j
+    ∙ stored-acceptable (f .id) d l (o .finish .ensures l .good (t .if2 .taken)) j
+    ∙ ap (λ u. storedBy u (f .id) d l j) (sym (t .if2 .taken)))
 
 returns-3 : tie.Need-returns-3
 returns-3 c =
-    let o = c .before .before in
-    let k = o .before .before .before in
-    let x = asked (passed k) .args in
-    given k _
-    (gives (recordOf (x .h) (x .l) (left k)) (k .run .result) (o .finish .result) (x .l) (o .finish .ensures (latestOf (x .l)))
-    (λ j. ap (λ u. storedBy u (o .finish .result .id) (take (o .finish .result .len) (left k)) (latestOf (x .l)) j) (sym (c .if2 .left))))
+    let i = c .before in
+    let o = i .before in
+    let f = o .finish .result in
+    let l = latestOf (asked (passed (ran o)) .args .l) in
+    gave o _ (asked (passed (ran o)) .args .l) (c .give2 .ensures)
+    (λ j. ap (λ u. storedBy u (f .id) (take (f .len) (left (ran o))) l j) (sym (i .if2 .left)))
 
 pub feed-in-place-spec : {M : Type 1} → statement M
 feed-in-place-spec =
@@ -137,5 +158,7 @@ feed-in-place-spec =
     run-requires
     finish-requires
     store-requires
+    give-requires
     returns-2
+    give-requires-2
     returns-3)

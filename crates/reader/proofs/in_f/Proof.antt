@@ -13,9 +13,10 @@ use Rattle.line.specs.Table.{pending, next, refuse}
 use Rattle.line.specs.Table.State.{FD}
 use Rattle.line.specs.Record.{PlaceOk, IdOk}
 use Rattle.record.specs.View.{placeOf}
-use Rattle.reader.specs.Moving.{Sound, Fits, Goes}
+use Rattle.reader.specs.Moving.{Sound, Fits, Goes, went, shut as shutOf}
 use Rattle.reader.specs.declared.Moving.{Moving}
 use Rattle.reader.specs.declared.Moved.{Moved}
+use Rattle.reader.specs.declared.Act.the-variants.{Refused}
 use Rattle.reader.proofs.Stepping.{row-at}
 use Rattle.reader.proofs.Feeding.{goes-of, then-goes, then-stop}
 use Rattle.reader.proofs.Bulk.{inner, silent-within, pends-within, pends-F, F-other}
@@ -27,20 +28,23 @@ use Rattle.reader.proofs.in_f.Tie as tie
 fill-requires : tie.Need-fill-requires
 fill-requires c κs = search needs
 
-sub-t11 : tie.Need-sub-t11
-sub-t11 c = search needs
+sub-pending : tie.Need-sub-pending
+sub-pending c = search needs
 
-add-t12 : tie.Need-add-t12
-add-t12 c = search needs
+cast-pending : tie.Need-cast-pending
+cast-pending c = search needs
 
-sub-t13 : tie.Need-sub-t13
-sub-t13 c = search needs
+add-pending : tie.Need-add-pending
+add-pending c = search needs
 
-cast-t14 : tie.Need-cast-t14
-cast-t14 c = search needs
+sub-moving-of : tie.Need-sub-moving-of
+sub-moving-of c = search needs
 
-add-t15 : tie.Need-add-t15
-add-t15 c = search needs
+add-moving-of : tie.Need-add-moving-of
+add-moving-of c = search needs
+
+moving-of-requires : tie.Need-moving-of-requires
+moving-of-requires c κs = tt
 
 shared-slice-read-b : tie.Need-shared-slice-read-b
 shared-slice-read-b c = search needs
@@ -49,7 +53,7 @@ add-go : tie.Need-add-go
 add-go c = search needs
 
 go-requires : tie.Need-go-requires
-go-requires c κs = search needs
+go-requires c κs = rw (c .before .before .before .moving-of .ensures) (search needs)
 
 -- the place stays possible while data join
 F-sound : (k : ℕ) (m : Moving) (a : List ℕ) (w : Moving) (a′ : List ℕ) → m .place ≡ 2 → w .place ≡ 2 → w .id ≡ m .id → w .len ≤ 1024 → Sound k m a
@@ -63,7 +67,8 @@ F-sound k m a w a′ p q i l h =
 returns : tie.Need-returns
 unfolding placeOf
 returns c k =
-    let j = c .before .before .before .before .before in
+    let o = c .before .before .before .before in
+    let j = o .before .before in
     let x = j .before .before .before .args in
     let p = j .before .before .before .pre in
     let y = j .fill .ensures in
@@ -79,7 +84,7 @@ returns c k =
     let here = in-place m a 2 (p .0 .2) in
     let b = getD (now (x .s)) r 0 in
     then-goes q (y .least) e v
-    (subst (λ (t : Moved). Goes k m a a (now (x .s)) r (x .n) t) (sym (c .go .ensures))
+    (subst (λ (t : Moved). Goes k m a a (now (x .s)) r (x .n) t) (sym (c .go .ensures ∙ ap (λ (z : Moving). went z 3 (r + 1)) (o .moving-of .ensures)))
     (goes-of
     (steps-went k m a b (r + 1) (x .n) (omega arith) (fits-back f) (x .m .c1) (x .m .c2) 3 (FD (x .m .id) (take (m .len) a))
     (row-at (modeOf k) b here (is-dle b (c .before .if2 .taken)) refl) refl (omega arith) h)
@@ -89,12 +94,13 @@ add-shut : tie.Need-add-shut
 add-shut c = search needs
 
 shut-requires : tie.Need-shut-requires
-shut-requires c κs = search needs
+shut-requires c κs = rw (c .before .before .before .moving-of .ensures) (search needs)
 
 returns-2 : tie.Need-returns-2
 unfolding placeOf
 returns-2 c k =
-    let j = c .before .before .before .before .before in
+    let o = c .before .before .before .before in
+    let j = o .before .before in
     let x = j .before .before .before .args in
     let p = j .before .before .before .pre in
     let y = j .fill .ensures in
@@ -110,7 +116,7 @@ returns-2 c k =
     let here = in-place m a 2 (p .0 .2) in
     let b = getD (now (x .s)) r 0 in
     then-goes q (y .least) e v
-    (subst (λ (t : Moved). Goes k m a a (now (x .s)) r (x .n) t) (sym (c .shut .ensures))
+    (subst (λ (t : Moved). Goes k m a a (now (x .s)) r (x .n) t) (sym (c .shut .ensures ∙ ap (λ (z : Moving). shutOf z (Refused 4) b (r + 1)) (o .moving-of .ensures)))
     (goes-of
     (steps-refused k m a b (r + 1) (x .n) (omega arith) (fits-back f) 4
     (ap (λ z. next (modeOf k) z b) here
@@ -123,7 +129,8 @@ returns-2 c k =
 returns-3 : tie.Need-returns-3
 unfolding placeOf
 returns-3 c k =
-    let j = c .before .before in
+    let o = c .before in
+    let j = o .before .before in
     let x = j .before .before .before .args in
     let p = j .before .before .before .pre in
     let y = j .fill .ensures in
@@ -137,18 +144,19 @@ returns-3 c k =
     let f : Fits m r (x .n) = record { known = p .1 .known; short = y .held; room = omega (arith, p .1 .room, y .least) } in
     let e : m .outside + m .pending + x .at ≡ x .m .outside + x .m .pending + r = omega (arith, y .least) in
     let here = in-place m a 2 (p .0 .2) in
-    then-stop q (omega arith) (y .most) e f h v (y .whole)
+    rw (o .moving-of .ensures) (then-stop q (omega arith) (y .most) e f h v (y .whole))
 
 pub in-f-spec : {M : Type 1} → statement M
 in-f-spec =
     tie.close
     (tie.spec
     fill-requires
-    sub-t11
-    add-t12
-    sub-t13
-    cast-t14
-    add-t15
+    sub-pending
+    cast-pending
+    add-pending
+    sub-moving-of
+    add-moving-of
+    moving-of-requires
     shared-slice-read-b
     add-go
     go-requires

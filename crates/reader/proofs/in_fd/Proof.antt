@@ -9,7 +9,8 @@ use Rattle.line.specs.Frame.{modeOf, judge}
 use Rattle.line.specs.Table.{pending, ends}
 use Rattle.line.specs.Table.State.{F, C0}
 use Rattle.record.specs.View.{placeOf}
-use Rattle.reader.specs.Moving.{Moves}
+use Rattle.reader.specs.Moving.{Moves, went}
+use Rattle.reader.specs.declared.Moving.{Moving}
 use Rattle.reader.specs.declared.Moved.{Moved}
 use lib.ListN.{set, length-set}
 use Rattle.line.specs.Table.{join, refuse}
@@ -23,11 +24,14 @@ use Rattle.reader.proofs.in_fd.Tie as tie
 element-write-d : tie.Need-element-write-d
 element-write-d c = search needs
 
-add-t14 : tie.Need-add-t14
-add-t14 c = search needs
+add-moving-of : tie.Need-add-moving-of
+add-moving-of c = search needs
+
+moving-of-requires : tie.Need-moving-of-requires
+moving-of-requires c κs = tt
 
 go-requires : tie.Need-go-requires
-go-requires c κs = search needs
+go-requires c κs = rw (c .moving-of .ensures) (search needs)
 
 shut-requires : tie.Need-shut-requires
 shut-requires c κs = search needs
@@ -50,16 +54,16 @@ shut-requires-5 c κs = search needs
 returns : tie.Need-returns
 unfolding placeOf
 returns c =
-    let x = c .before .before .before .args in
-    let p = c .before .before .before .pre in
+    let x = c .before .before .before .before .args in
+    let p = c .before .before .before .before .pre in
     let d = take (x .m .len) (now (x .d)) in
     let here = in-place (x .m) (now (x .d)) 3 (p .0 .2) in
     let more : 1 ≤ x .m .pending = omega (arith, p .0 .4, ap pending here) in (
-      subst (λ (t : Moved). Moves (x .mode) (x .m) (now (x .d)) (set (now (x .d)) (x .m .len) (x .b)) (x .b) (x .at) (x .n) t) (sym (c .go .ensures))
+      subst (λ (t : Moved). Moves (x .mode) (x .m) (now (x .d)) (set (now (x .d)) (x .m .len) (x .b)) (x .b) (x .at) (x .n) t) (sym (c .go .ensures ∙ ap (λ (z : Moving). went z 2 (x .at)) (c .before .moving-of .ensures)))
           (steps-stored (x .mode) (x .m) (now (x .d)) (x .b) (x .at) (x .n) (p .0 .0) (p .1)
-          (row-at (modeOf (x .mode)) (x .b) here (is-dle (x .b) (c .before .before .match .keys1)) refl
+          (row-at (modeOf (x .mode)) (x .b) here (is-dle (x .b) (c .before .before .before .match .keys1)) refl
           ∙ ap (λ s. join (x .m .id) d (x .b) (pending s + 1)) (sym here))
-          (p .0 .3) (c .before .if1 .taken) (p .0 .4)),
+          (p .0 .3) (c .before .before .if1 .taken) (p .0 .4)),
       simp length-set (p .0 .3),
     )
 
@@ -165,7 +169,8 @@ in-fd-spec =
     tie.close
     (tie.spec
     element-write-d
-    add-t14
+    add-moving-of
+    moving-of-requires
     go-requires
     shut-requires
     shut-requires-2
