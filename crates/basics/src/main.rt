@@ -15,16 +15,13 @@
 // - 09 store, acceptable: identifier and length are the first two bytes, the data those after them
 // - 0A question: the first byte is the mode, the next two numbers of four bytes are fed and outside; a is the length of the array, b
 //   how many bytes are offered
-// - 0B feed_in_place: mode, fed and outside as in 0A, then the bytes
 // - 0C parse, line_end: of the bytes as text, with room b, and from place a on
 // - 0D number, of every refusal
 // - 0E int8_byte, int16_word, of numbers at the ends and around 0
 //
 // A call's line has its number and its answers, in this order; where it fills a buffer, that is last, up to four bytes past the room.
 use latest::Latest;
-use record::Event;
 use record::Head;
-use record::InPlace;
 use record::Reader;
 
 fn number(n: u64) {
@@ -231,57 +228,6 @@ fn run_question(len: usize, offered: usize, d: &[u8], array: &[u8]) {
     octet(questions::question(h, f.reader.latest, &array[0..len], offered));
 }
 
-fn show_event(e: Event) {
-    match e {
-        Event::Nothing => {
-            io::write_all(1, b" nothing");
-        }
-        Event::Message => {
-            io::write_all(1, b" message");
-        }
-        Event::Refusal(n) => octet(n),
-    }
-}
-
-fn show_answer(x: InPlace) {
-    let e = x.event;
-    show_event(e);
-    io::write_all(1, b" ");
-    hex(x.id);
-    size(x.len);
-    word(x.closed);
-    size(x.taken);
-}
-
-fn show_head(h: Head) {
-    octet(h.place);
-    word(h.fed);
-    word(h.accepted);
-    word(h.refused);
-    word(h.outside);
-    word(h.pending);
-}
-
-fn show_data(array: &[u8; Reader::CAPACITY], n: usize) {
-    io::write_all(1, b" ");
-    octets(array, n);
-}
-
-fn run_in_place(d: &[u8]) {
-    if d.len() < 9 {
-        return;
-    }
-    let mut array = [0x5Au8; Reader::CAPACITY];
-    let f = Reader::fresh(0);
-    let h = head_of(d);
-    let x = reader::feed_in_place(h, f.reader.latest, &mut array, &d[9..]);
-    show_answer(x);
-    show_head(x.head);
-    held_short(x.latest);
-    held_long(x.latest);
-    show_data(&array, x.len);
-}
-
 fn run_text(from: usize, room: usize, d: &[u8], buf: &mut [u8]) {
     if buf.len() < room {
         return;
@@ -343,7 +289,6 @@ fn run(call: u8, a: u64, b: u64, d: &[u8]) {
         6 => run_stuffing(a as usize, d),
         7 => run_sums(d),
         9 => run_store(d),
-        11 => run_in_place(d),
         13 => run_refusals(),
         14 => run_bits(),
         _ => run_filling(call, a, b, d, &mut buf),

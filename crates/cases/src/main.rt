@@ -3,6 +3,7 @@
 // - 02, a record, a slice: the record is fed the slice, from where each call stopped, until a call takes nothing; so an empty slice
 //   comes at the end
 // - 03, a record, a slice: the record takes single steps up to the first event, then the slice, then an empty slice
+// - 05, a record, a slice: the record is fed the slice by one call in place
 // - 04, mode, identifier, room in two bytes, data: the writer fills so many bytes of a buffer of 5A
 // A record is mode, place, identifier, c1, c2, then length in two bytes and the counts accepted, refused, outside, pending and fed in
 // four bytes each, low byte first, two bytes of data, then the identifier of a standing reading, how many bytes it has, and these.
@@ -169,7 +170,26 @@ fn record_of(s: &[u8], rest: &[u8], n: usize) -> Reader {
     }
 }
 
+// One call in place.
+fn in_place(r: Reader, s: &[u8]) {
+    let mut d = r.bytes;
+    let x = reader::feed_in_place(r.head, r.latest, &mut d, s);
+    let e = x.event;
+    let a = Answer {
+        event: e,
+        id: x.id,
+        len: x.len,
+        bytes: d,
+        closed: x.closed,
+    };
+    show(a, x.head, x.taken, 3);
+}
+
 fn run_record(kind: u8, r: Reader, s: &[u8]) {
+    if kind == 5 {
+        in_place(r, s);
+        return;
+    }
     if kind == 2 {
         run(r, s, 0);
         return;
@@ -235,7 +255,7 @@ fn line(s: &[u8]) {
 }
 
 fn main() {
-    let mut buf = io::large_buffer();
+    let mut buf = [0u8; 131072];
     let n = io::read_full(0, &mut buf);
     let s = &buf[..n];
     let mut at: usize = 0;
