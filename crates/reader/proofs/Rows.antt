@@ -18,7 +18,7 @@ use Rattle.line.specs.Table.Event.{refusal}
 use Rattle.line.specs.Record.{stateOf}
 use Rattle.line.specs.Record.Place.{at as on}
 use Rattle.record.specs.View.{placeOf}
-use Rattle.reader.specs.Moving.{one, placeNow, turned, verdictOf, Pends, Fits, Moves, went, passed, opened, shut}
+use Rattle.reader.specs.Moving.{movingOf, one, placeNow, turned, verdictOf, Pends, Fits, Moves, went, passed, opened, shut}
 use Rattle.reader.specs.declared.Moving.{Moving}
 use Rattle.reader.specs.declared.Act.the-variants.{Quiet, Refused, Reopened, Ended}
 use Rattle.reader.proofs.Stepping.{here, quiet-says, closed-says, ended-says, pending-went}
@@ -46,7 +46,7 @@ module _ (k : ℕ) (m : Moving) (a : List ℕ) (b at n : ℕ) (one≤ : 1 ≤ at
   pub steps-went : (x y p : ℕ) (s′ : State) → next (modeOf k) (here k m a b) b ≡ go s′
       → placeOf p (m .id) (take (m .len) a) x y ≡ on s′ → p < 8 → Pends m a
       → Moves k m a a b at n
-      (went (record { place = m .place; id = m .id; c1 = x; c2 = y; len = m .len; outside = m .outside; pending = m .pending }) p at)
+      (went (movingOf (m .place) (m .id) x y (m .len) (m .outside) (m .pending)) p at)
   unfolding turned
   steps-went x y p s′ e q l h =
       record {

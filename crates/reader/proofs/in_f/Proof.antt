@@ -13,12 +13,12 @@ use Rattle.line.specs.Table.{pending, next, refuse}
 use Rattle.line.specs.Table.State.{FD}
 use Rattle.line.specs.Record.{PlaceOk, IdOk}
 use Rattle.record.specs.View.{placeOf}
-use Rattle.reader.specs.Moving.{Sound, Fits, Goes, went, shut as shutOf}
+use Rattle.reader.specs.Moving.{Pends, Sound, Fits, Goes, went, shut as shutOf}
 use Rattle.reader.specs.declared.Moving.{Moving}
 use Rattle.reader.specs.declared.Moved.{Moved}
 use Rattle.reader.specs.declared.Act.the-variants.{Refused}
 use Rattle.reader.proofs.Stepping.{row-at}
-use Rattle.reader.proofs.Feeding.{goes-of, then-goes, then-stop}
+use Rattle.reader.proofs.Feeding.{Silent, goes-of, then-goes, then-stop}
 use Rattle.reader.proofs.Bulk.{inner, silent-within, pends-within, pends-F, F-other}
 use Rattle.record.proofs.Data.{is-dle}
 use Rattle.reader.proofs.Rows.{in-place, fits-back, steps-went, steps-refused, full-join}
@@ -64,30 +64,71 @@ F-sound k m a w a′ p q i l h =
     subst⁻¹ (PlaceOk (modeOf k)) (in-place w a′ 2 q)
     (record { mode = tt; identifier = rw i u; size = omega (arith, length-take (w .len) a′) })
 
+-- the array and the numbers once the bytes up to a place are stored
+abbrev start : tie.After-fill → tie.Start
+start j = j .before .before .before
+
+abbrev array : tie.After-fill → List ℕ
+array j = j .fill .last .0
+
+abbrev moved : tie.After-fill → Moving
+moved j = inner (start j .args .m) (j .fill .result - start j .args .at)
+
+module _ (j : tie.After-fill) where
+  abbrev before : List ℕ
+  before = now (start j .args .d)
+
+  abbrev bytes : List ℕ
+  bytes = now (start j .args .s)
+
+  -- they raise nothing, whatever the mode
+  silent : (k : ℕ) → Silent k (start j .args .m) before (moved j) (array j) bytes (start j .args .at) (j .fill .result) (start j .args .n)
+  silent k =
+      let x = start j .args in
+      let p = start j .pre in
+      let y = j .fill .ensures in
+      let l : length (take (x .m .len) before) ≡ x .m .len = length-take-le (x .m .len) before (omega (arith, p .0 .3, p .1 .short)) in
+      silent-within k (x .m) before (array j) bytes (x .at) (j .fill .result) (x .n) (p .0 .2) (y .least) (y .most) (p .0 .1) (y .none) (p .0 .4) l (y .held) (y .same)
+
+  pends : Pends (moved j) (array j)
+  pends =
+      let x = start j .args in
+      let p = start j .pre in
+      let y = j .fill .ensures in
+      pends-within 0 (x .m) before (array j) bytes (x .at) (j .fill .result) (x .n) (p .0 .2) (y .least) (y .most) (p .0 .1) (y .none) (p .0 .4) (y .same)
+
+  sound : (k : ℕ) → Sound k (start j .args .m) before → Sound k (moved j) (array j)
+  sound k = F-sound k (start j .args .m) before (moved j) (array j) (start j .pre .0 .2) (start j .pre .0 .2) refl (j .fill .ensures .held)
+
+  fits : Fits (moved j) (j .fill .result) (start j .args .n)
+  fits =
+      let p = start j .pre in
+      let y = j .fill .ensures in
+      record { known = p .1 .known; short = y .held; room = omega (arith, p .1 .room, y .least) }
+
+  tally : moved j .outside + moved j .pending + start j .args .at ≡ start j .args .m .outside + start j .args .m .pending + j .fill .result
+  tally =
+      let y = j .fill .ensures in
+      omega (arith, y .least)
+
 returns : tie.Need-returns
 unfolding placeOf
 returns c k =
     let o = c .before .before .before .before in
     let j = o .before .before in
-    let x = j .before .before .before .args in
-    let p = j .before .before .before .pre in
+    let x = start j .args in
+    let p = start j .pre in
     let y = j .fill .ensures in
     let r = j .fill .result in
-    let a = j .fill .last .0 in
-    let l : length (take (x .m .len) (now (x .d))) ≡ x .m .len = length-take-le (x .m .len) (now (x .d)) (omega (arith, p .0 .3, p .1 .short)) in
-    let m = inner (x .m) (r - x .at) in
-    let q = silent-within k (x .m) (now (x .d)) a (now (x .s)) (x .at) r (x .n) (p .0 .2) (y .least) (y .most) (p .0 .1) (y .none) (p .0 .4) l (y .held) (y .same) in
-    let h = pends-within k (x .m) (now (x .d)) a (now (x .s)) (x .at) r (x .n) (p .0 .2) (y .least) (y .most) (p .0 .1) (y .none) (p .0 .4) (y .same) in
-    let v = F-sound k (x .m) (now (x .d)) m a (p .0 .2) (p .0 .2) refl (y .held) in
-    let f : Fits m r (x .n) = record { known = p .1 .known; short = y .held; room = omega (arith, p .1 .room, y .least) } in
-    let e : m .outside + m .pending + x .at ≡ x .m .outside + x .m .pending + r = omega (arith, y .least) in
+    let a = array j in
+    let m = moved j in
     let here = in-place m a 2 (p .0 .2) in
     let b = getD (now (x .s)) r 0 in
-    then-goes q (y .least) e v
+    then-goes (silent j k) (y .least) (tally j) (sound j k)
     (subst (λ (t : Moved). Goes k m a a (now (x .s)) r (x .n) t) (sym (c .go .ensures ∙ ap (λ (z : Moving). went z 3 (r + 1)) (o .moving-of .ensures)))
     (goes-of
-    (steps-went k m a b (r + 1) (x .n) (omega arith) (fits-back f) (x .m .c1) (x .m .c2) 3 (FD (x .m .id) (take (m .len) a))
-    (row-at (modeOf k) b here (is-dle b (c .before .if2 .taken)) refl) refl (omega arith) h)
+    (steps-went k m a b (r + 1) (x .n) (omega arith) (fits-back (fits j)) (x .m .c1) (x .m .c2) 3 (FD (x .m .id) (take (m .len) a))
+    (row-at (modeOf k) b here (is-dle b (c .before .if2 .taken)) refl) refl (omega arith) (pends j))
     (c .before .before .before .if1 .taken) (p .0 .1) (y .whole)))
 
 add-shut : tie.Need-add-shut
@@ -101,50 +142,31 @@ unfolding placeOf
 returns-2 c k =
     let o = c .before .before .before .before in
     let j = o .before .before in
-    let x = j .before .before .before .args in
-    let p = j .before .before .before .pre in
+    let x = start j .args in
+    let p = start j .pre in
     let y = j .fill .ensures in
     let r = j .fill .result in
-    let a = j .fill .last .0 in
-    let l : length (take (x .m .len) (now (x .d))) ≡ x .m .len = length-take-le (x .m .len) (now (x .d)) (omega (arith, p .0 .3, p .1 .short)) in
-    let m = inner (x .m) (r - x .at) in
-    let q = silent-within k (x .m) (now (x .d)) a (now (x .s)) (x .at) r (x .n) (p .0 .2) (y .least) (y .most) (p .0 .1) (y .none) (p .0 .4) l (y .held) (y .same) in
-    let h = pends-within k (x .m) (now (x .d)) a (now (x .s)) (x .at) r (x .n) (p .0 .2) (y .least) (y .most) (p .0 .1) (y .none) (p .0 .4) (y .same) in
-    let v = F-sound k (x .m) (now (x .d)) m a (p .0 .2) (p .0 .2) refl (y .held) in
-    let f : Fits m r (x .n) = record { known = p .1 .known; short = y .held; room = omega (arith, p .1 .room, y .least) } in
-    let e : m .outside + m .pending + x .at ≡ x .m .outside + x .m .pending + r = omega (arith, y .least) in
+    let a = array j in
+    let m = moved j in
     let here = in-place m a 2 (p .0 .2) in
     let b = getD (now (x .s)) r 0 in
-    then-goes q (y .least) e v
+    then-goes (silent j k) (y .least) (tally j) (sound j k)
     (subst (λ (t : Moved). Goes k m a a (now (x .s)) r (x .n) t) (sym (c .shut .ensures ∙ ap (λ (z : Moving). shutOf z (Refused 4) b (r + 1)) (o .moving-of .ensures)))
     (goes-of
-    (steps-refused k m a b (r + 1) (x .n) (omega arith) (fits-back f) 4
+    (steps-refused k m a b (r + 1) (x .n) (omega arith) (fits-back (fits j)) 4
     (ap (λ z. next (modeOf k) z b) here
     ∙ F-other (modeOf k) (x .m .id) (take (m .len) a) b (c .before .if2 .left)
     ∙ full-join (x .m .id) a (m .len) b _ (y .whole) (y .stop (c .before .before .before .if1 .taken) (c .before .if2 .left))
     ∙ ap (λ z. refuse 4 (x .m .id) (pending z + 1)) (sym here))
-    (omega (arith, pends-F m a (p .0 .2) h)) h)
+    (omega (arith, pends-F m a (p .0 .2) (pends j))) (pends j))
     (c .before .before .before .if1 .taken) (p .0 .1) (y .whole)))
 
 returns-3 : tie.Need-returns-3
-unfolding placeOf
 returns-3 c k =
     let o = c .before in
     let j = o .before .before in
-    let x = j .before .before .before .args in
-    let p = j .before .before .before .pre in
     let y = j .fill .ensures in
-    let r = j .fill .result in
-    let a = j .fill .last .0 in
-    let l : length (take (x .m .len) (now (x .d))) ≡ x .m .len = length-take-le (x .m .len) (now (x .d)) (omega (arith, p .0 .3, p .1 .short)) in
-    let m = inner (x .m) (r - x .at) in
-    let q = silent-within k (x .m) (now (x .d)) a (now (x .s)) (x .at) r (x .n) (p .0 .2) (y .least) (y .most) (p .0 .1) (y .none) (p .0 .4) l (y .held) (y .same) in
-    let h = pends-within k (x .m) (now (x .d)) a (now (x .s)) (x .at) r (x .n) (p .0 .2) (y .least) (y .most) (p .0 .1) (y .none) (p .0 .4) (y .same) in
-    let v = F-sound k (x .m) (now (x .d)) m a (p .0 .2) (p .0 .2) refl (y .held) in
-    let f : Fits m r (x .n) = record { known = p .1 .known; short = y .held; room = omega (arith, p .1 .room, y .least) } in
-    let e : m .outside + m .pending + x .at ≡ x .m .outside + x .m .pending + r = omega (arith, y .least) in
-    let here = in-place m a 2 (p .0 .2) in
-    rw (o .moving-of .ensures) (then-stop q (omega arith) (y .most) e f h v (y .whole))
+    rw (o .moving-of .ensures) (then-stop (silent j k) (omega arith) (y .most) (tally j) (fits j) (pends j) (sound j k) (y .whole))
 
 pub in-f-spec : {M : Type 1} → statement M
 in-f-spec =
