@@ -10,8 +10,8 @@
 //
 // A case with a record begins with the refusal of a fresh reader of its mode. Each call has a line: the event (0 nothing yet, 255 a
 // message, else the refusal), identifier, bytes closed, data bytes, bytes taken (or single steps), then the record's place, fed,
-// accepted, refused, outside and pending, then a message's data. In 03 a call that is refused by 1, 2 or 3 has a second line with the
-// record's mode, identifier, c1, c2 and length: they are as they were. The writer's line has its refusal, the length, and the buffer
+// accepted, refused, outside and pending, then a message's data. In 03 and 05 a call that is refused by 1, 2 or 3 has a second line with
+// the record's mode, identifier, c1, c2 and length: they are as they were. The writer's line has its refusal, the length, and the buffer
 // up to four bytes past the room. Identifiers, c1, c2 and data are in hexadecimal.
 use record::Answer;
 use record::Event;

@@ -44,6 +44,7 @@ pub struct Moved {
     pub at: usize,
 }
 
+// The one place that makes them: each change gives all seven anew, which the compiler keeps in registers.
 fn moving_of(
     place: u8,
     id: u8,
