@@ -119,7 +119,7 @@ impl Random {
                 }
                 _ => {
                     body.push(4);
-                    self.field8(120, 138, body);
+                    self.field8(120, 158, body);
                     body.push(0xFF);
                 }
             }

@@ -177,7 +177,7 @@ fn each_satellite_once(triples: &[u8]) -> bool {
 /// One entry of 52h. Its last byte, the signal, is free.
 fn in_view(entry: &[u8]) -> bool {
     let who = match (entry[0], entry[1]) {
-        (1, 1..=32) | (4, 120..=138) => entry[2] == 0xFF,
+        (1, 1..=32) | (4, 120..=158) => entry[2] == 0xFF,
         (2, 1..=24) => carrier(entry[2]),
         _ => false,
     };

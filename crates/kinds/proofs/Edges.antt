@@ -39,7 +39,7 @@ kinds =
     ∷ edges 0x1F ([] ∷ (0 ∷ []) ∷ (1 ∷ []) ∷ []) ((2 ∷ []) ∷ []) ((0 ∷ 0 ∷ []) ∷ [])
     ∷ edges 0xF4 ((255 ∷ []) ∷ []) [] ([] ∷ (0 ∷ 0 ∷ []) ∷ [])
     ∷ edges 0x20 ((1 ∷ 1 ∷ []) ∷ (1 ∷ 32 ∷ []) ∷ (2 ∷ 1 ∷ []) ∷ (2 ∷ 24 ∷ []) ∷ [])
-    ((1 ∷ 0 ∷ []) ∷ (1 ∷ 33 ∷ []) ∷ (2 ∷ 0 ∷ []) ∷ (2 ∷ 25 ∷ []) ∷ (0 ∷ 1 ∷ []) ∷ (3 ∷ 1 ∷ []) ∷ (4 ∷ 120 ∷ []) ∷ [])
+    ((1 ∷ 0 ∷ []) ∷ (1 ∷ 33 ∷ []) ∷ (2 ∷ 0 ∷ []) ∷ (2 ∷ 25 ∷ []) ∷ (0 ∷ 1 ∷ []) ∷ (3 ∷ 1 ∷ []) ∷ (4 ∷ 120 ∷ []) ∷ (4 ∷ 158 ∷ []) ∷ [])
     ((1 ∷ []) ∷ (1 ∷ 1 ∷ 0 ∷ []) ∷ [])
     ∷ edges 0x23 ([] ∷ (13 ∷ 59 ∷ []) ∷ (243 ∷ 197 ∷ []) ∷ [])
     ((14 ∷ 0 ∷ []) ∷ (242 ∷ 0 ∷ []) ∷ (0 ∷ 60 ∷ []) ∷ (0 ∷ 196 ∷ []) ∷ [])
@@ -62,8 +62,8 @@ kinds =
     ∷ edges 0xEB ((replicate 16 0 ++ (3 ∷ replicate 9 0)) ∷ [])
     ((replicate 16 0 ++ (4 ∷ replicate 9 0)) ∷ [])
     ((replicate 25 0) ∷ (replicate 27 0) ∷ [])
-    ∷ edges 0x52 ([] ∷ (1 ∷ 1 ∷ 255 ∷ replicate 4 0) ∷ (1 ∷ 32 ∷ 255 ∷ 90 ∷ 103 ∷ 1 ∷ 255 ∷ []) ∷ (2 ∷ 1 ∷ 249 ∷ replicate 4 0) ∷ (2 ∷ 24 ∷ 13 ∷ replicate 4 0) ∷ (4 ∷ 120 ∷ 255 ∷ replicate 4 0) ∷ (4 ∷ 138 ∷ 255 ∷ replicate 4 0) ∷ times 75 (1 ∷ 1 ∷ 255 ∷ replicate 4 0) ∷ [])
-    ((1 ∷ 0 ∷ 255 ∷ replicate 4 0) ∷ (1 ∷ 33 ∷ 255 ∷ replicate 4 0) ∷ (2 ∷ 0 ∷ 0 ∷ replicate 4 0) ∷ (2 ∷ 25 ∷ 0 ∷ replicate 4 0) ∷ (4 ∷ 119 ∷ 255 ∷ replicate 4 0) ∷ (4 ∷ 139 ∷ 255 ∷ replicate 4 0) ∷ (3 ∷ 1 ∷ 255 ∷ replicate 4 0) ∷ (1 ∷ 1 ∷ replicate 5 0) ∷ (2 ∷ 1 ∷ 248 ∷ replicate 4 0) ∷ (2 ∷ 1 ∷ 14 ∷ replicate 4 0) ∷ (4 ∷ 120 ∷ replicate 5 0) ∷ (1 ∷ 1 ∷ 255 ∷ 91 ∷ replicate 3 0) ∷ (1 ∷ 1 ∷ 255 ∷ 0 ∷ 104 ∷ 1 ∷ 0 ∷ []) ∷ (1 ∷ 1 ∷ 255 ∷ (replicate 4 0 ++ (1 ∷ 33 ∷ 255 ∷ replicate 4 0))) ∷ [])
+    ∷ edges 0x52 ([] ∷ (1 ∷ 1 ∷ 255 ∷ replicate 4 0) ∷ (1 ∷ 32 ∷ 255 ∷ 90 ∷ 103 ∷ 1 ∷ 255 ∷ []) ∷ (2 ∷ 1 ∷ 249 ∷ replicate 4 0) ∷ (2 ∷ 24 ∷ 13 ∷ replicate 4 0) ∷ (4 ∷ 120 ∷ 255 ∷ replicate 4 0) ∷ (4 ∷ 139 ∷ 255 ∷ replicate 4 0) ∷ (4 ∷ 158 ∷ 255 ∷ replicate 4 0) ∷ times 75 (1 ∷ 1 ∷ 255 ∷ replicate 4 0) ∷ [])
+    ((1 ∷ 0 ∷ 255 ∷ replicate 4 0) ∷ (1 ∷ 33 ∷ 255 ∷ replicate 4 0) ∷ (2 ∷ 0 ∷ 0 ∷ replicate 4 0) ∷ (2 ∷ 25 ∷ 0 ∷ replicate 4 0) ∷ (4 ∷ 119 ∷ 255 ∷ replicate 4 0) ∷ (4 ∷ 159 ∷ 255 ∷ replicate 4 0) ∷ (3 ∷ 1 ∷ 255 ∷ replicate 4 0) ∷ (1 ∷ 1 ∷ replicate 5 0) ∷ (2 ∷ 1 ∷ 248 ∷ replicate 4 0) ∷ (2 ∷ 1 ∷ 14 ∷ replicate 4 0) ∷ (4 ∷ 120 ∷ replicate 5 0) ∷ (1 ∷ 1 ∷ 255 ∷ 91 ∷ replicate 3 0) ∷ (1 ∷ 1 ∷ 255 ∷ 0 ∷ 104 ∷ 1 ∷ 0 ∷ []) ∷ (1 ∷ 1 ∷ 255 ∷ (replicate 4 0 ++ (1 ∷ 33 ∷ 255 ∷ replicate 4 0))) ∷ [])
     ((replicate 6 0) ∷ (1 ∷ 1 ∷ 255 ∷ replicate 5 0) ∷ times 76 (1 ∷ 1 ∷ 255 ∷ replicate 4 0) ∷ [])
     ∷ []
 

@@ -88,9 +88,9 @@ in49 d = (eqb (byte d 0) 1 && between 1 32 (byte d 1)) || (eqb (byte d 0) 2 && l
 abbrev pub inEB : List ℕ → Bool
 inEB d = leb (byte d 16) 3
 
--- a satellite of 20h, or system 4 with number 120–138
+-- a satellite of 20h, or system 4 with number 120–158 (document 02, Point 1)
 abbrev pub visible : ℕ → ℕ → Bool
-visible s n = satellite s n || (eqb s 4 && between 120 138 n)
+visible s n = satellite s n || (eqb s 4 && between 120 158 n)
 
 -- carrier for system 2, else FFh; elevation 0–90; azimuth 0–359; signal, any
 abbrev pub entry : List ℕ → Bool

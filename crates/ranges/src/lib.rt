@@ -162,7 +162,7 @@ pub fn in_eb(body: &[u8]) -> bool
 pub fn visible(system: u8, number: u8) -> bool
     ensures { λ r. ⌜ r ≡ visible system number ⌝ }
 {
-    satellite(system, number) | ((system == 4) & ((120 <= number) & (number <= 138)))
+    satellite(system, number) | ((system == 4) & ((120 <= number) & (number <= 158)))
 }
 
 // The carrier byte of 52h: FFh, but for system 2 a carrier.
