@@ -1,21 +1,14 @@
 -- Document 01, "Kinds and fields": the ranges of each kind's fields, in its order. Lengths are the table's (Kinds).
 use mathlib.Core.Bool.{Bool, true, cond, not, _&&_, _||_}
 use mathlib.Core.List.{List}
-use Prim.Native.Nat.{ℕ, zero, suc, _+_, _-_, _*_, _/_, _%_}
+use Prim.Native.Nat.{ℕ, zero, suc, _+_, _*_, _/_, _%_}
 use lib.Dec.{eqb, leb, ltb}
-use lib.IntN.{ℤ, pos, negℤ}
+use lib.IntN.{ℤ}
 use lib.ListN.{length, drop}
-use lib.Signed.{leZ}
 use Rattle.octets.specs.Bytes.{byte}
 use Rattle.numbers.specs.Number.{numberAt}
 use Rattle.numbers.specs.Signed.{int8}
-
-abbrev pub between : ℕ → ℕ → ℕ → Bool
-between low high n = leb low n && leb n high
-
--- from -low to high
-abbrev pub within : ℕ → ℕ → ℤ → Bool
-within low high z = leZ (negℤ (pos low)) z && leZ z (pos high)
+use Rattle.satellites.specs.Satellites.{between, within, satellite, visible, carrier}
 
 abbrev pub int8At : List ℕ → ℕ → ℤ
 int8At d i = int8 (byte d i)
@@ -35,14 +28,6 @@ free d = true
 -- 1Fh: value 0 or 1
 abbrev pub in1F : List ℕ → Bool
 in1F d = eqb (length d) 0 || leb (byte d 0) 1
-
--- system 1 with number 1–32, or system 2 with 1–24
-abbrev pub satellite : ℕ → ℕ → Bool
-satellite s n = (eqb s 1 && between 1 32 n) || (eqb s 2 && between 1 24 n)
-
--- the place of a satellite among the 56: bit k − 1 for GPS k, bit 31 + k for GLONASS k
-abbrev pub placeOf : ℕ → ℕ → ℕ
-placeOf s n = 32 * (s - 1) + (n - 1)
 
 abbrev pub in20 : List ℕ → Bool
 in20 d = satellite (byte d 0) (byte d 1)
@@ -76,10 +61,6 @@ in47 d =
     all 56 (λ i. satellite (byte d (3 * i)) (byte d (3 * i + 1)) && between 1 2 (byte d (3 * i + 2)))
     && all 32 (λ k. once d 1 (k + 1)) && all 24 (λ k. once d 2 (k + 1))
 
--- INT8S carrier −7 to 13
-abbrev pub carrier : ℤ → Bool
-carrier z = within 7 13 z
-
 -- first byte 1: number 1–32; first byte 2: number 0–24, carrier; no other first byte
 abbrev pub in49 : List ℕ → Bool
 in49 d = (eqb (byte d 0) 1 && between 1 32 (byte d 1)) || (eqb (byte d 0) 2 && leb (byte d 1) 24 && carrier (int8At d 2))
@@ -87,10 +68,6 @@ in49 d = (eqb (byte d 0) 1 && between 1 32 (byte d 1)) || (eqb (byte d 0) 2 && l
 -- byte 16 from 0 to 3
 abbrev pub inEB : List ℕ → Bool
 inEB d = leb (byte d 16) 3
-
--- a satellite of 20h, or system 4 with number 120–158 (document 02, Point 1)
-abbrev pub visible : ℕ → ℕ → Bool
-visible s n = satellite s n || (eqb s 4 && between 120 158 n)
 
 -- carrier for system 2, else FFh; elevation 0–90; azimuth 0–359; signal, any
 abbrev pub entry : List ℕ → Bool

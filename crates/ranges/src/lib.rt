@@ -6,7 +6,8 @@ ghost use Prim.Native.Nat.{_/_, _%_, _^_, _<_};
 ghost use lib.Bits.{bitOr};
 ghost use lib.Dec.{eqb};
 ghost use Rattle.numbers.specs.Signed.{int8};
-ghost use Rattle.ranges.specs.Ranges.{between, int8At, in1F, satellite, placeOf, in20, zone, in23, antenna, in43, in46, in47, carrier, in49, inEB, visible, entry, in52};
+ghost use Rattle.satellites.specs.Satellites.{between, satellite, carrier};
+ghost use Rattle.ranges.specs.Ranges.{int8At, in1F, in20, zone, in23, antenna, in43, in46, in47, in49, inEB, entry, in52};
 
 pub fn in_1f(body: &[u8]) -> bool
     ensures { λ r. ⌜ r ≡ in1F (now (body .entry)) ⌝ }
@@ -14,18 +15,10 @@ pub fn in_1f(body: &[u8]) -> bool
     (body.len() == 0) | (octets::byte_at(body, 0) <= 1)
 }
 
-// Whether there is such a satellite: system 1 (GPS) with 1 to 32, system 2 (GLONASS) with 1 to 24.
-pub fn satellite(system: u8, number: u8) -> bool
-    ensures { λ r. ⌜ r ≡ satellite system number ⌝ }
-{
-    ((system == 1) & ((1 <= number) & (number <= 32)))
-        | ((system == 2) & ((1 <= number) & (number <= 24)))
-}
-
 pub fn in_20(body: &[u8]) -> bool
     ensures { λ r. ⌜ r ≡ in20 (now (body .entry)) ⌝ }
 {
-    satellite(octets::byte_at(body, 0), octets::byte_at(body, 1))
+    satellites::satellite(octets::byte_at(body, 0), octets::byte_at(body, 1))
 }
 
 // The signed number in the byte at a place.
@@ -84,17 +77,7 @@ pub fn in_46(body: &[u8]) -> bool
 fn triple(system: u8, number: u8, used: u8) -> bool
     ensures { λ r. ⌜ r ≡ (satellite system number && between 1 2 used) ⌝ }
 {
-    satellite(system, number) & ((1 <= used) & (used <= 2))
-}
-
-// The place of a satellite among the 56: 0 to 31 of system 1, 32 to 55 of system 2. 56 where there is no such satellite.
-pub fn place(system: u8, number: u8) -> u64
-    ensures { λ r. ⌜ r ≡ cond (satellite system number) (placeOf system number) 56 ⌝ }
-{
-    if satellite(system, number) {
-        return 32 * (system as u64 - 1) + (number as u64 - 1);
-    }
-    56
+    satellites::satellite(system, number) & ((1 <= used) & (used <= 2))
 }
 
 fn is_set(seen: u64, p: u64) -> bool
@@ -125,7 +108,7 @@ pub fn in_47(body: &[u8]) -> bool
         if !triple(system, number, used) {
             return false;
         }
-        let p = place(system, number);
+        let p = satellites::place(system, number);
         if is_set(seen, p) {
             return false;
         }
@@ -135,13 +118,6 @@ pub fn in_47(body: &[u8]) -> bool
     true
 }
 
-// A carrier number of GLONASS.
-pub fn carrier(number: i8) -> bool
-    ensures { λ r. ⌜ r ≡ carrier number ⌝ }
-{
-    (-7 <= number) & (number <= 13)
-}
-
 // First byte 1: GPS, number 1 to 32. First byte 2: GLONASS, number 0 to 24 and a carrier.
 pub fn in_49(body: &[u8]) -> bool
     ensures { λ r. ⌜ r ≡ in49 (now (body .entry)) ⌝ }
@@ -149,7 +125,7 @@ pub fn in_49(body: &[u8]) -> bool
     let system = octets::byte_at(body, 0);
     let number = octets::byte_at(body, 1);
     ((system == 1) & ((1 <= number) & (number <= 32)))
-        | ((system == 2) & (number <= 24) & carrier(int8_at(body, 2)))
+        | ((system == 2) & (number <= 24) & satellites::carrier(int8_at(body, 2)))
 }
 
 pub fn in_eb(body: &[u8]) -> bool
@@ -158,19 +134,12 @@ pub fn in_eb(body: &[u8]) -> bool
     octets::byte_at(body, 16) <= 3
 }
 
-// A satellite of 52h: one of those, or of system 4 (SBAS).
-pub fn visible(system: u8, number: u8) -> bool
-    ensures { λ r. ⌜ r ≡ visible system number ⌝ }
-{
-    satellite(system, number) | ((system == 4) & ((120 <= number) & (number <= 158)))
-}
-
 // The carrier byte of 52h: FFh, but for system 2 a carrier.
 fn carrier_byte(system: u8, b: u8) -> bool
     ensures { λ r. ⌜ r ≡ cond (eqb system 2) (carrier (int8 b)) (eqb b 0xFF) ⌝ }
 {
     if system == 2 {
-        return carrier(numbers::int8_of(b));
+        return satellites::carrier(numbers::int8_of(b));
     }
     b == 0xFF
 }
@@ -182,7 +151,7 @@ fn in_entry(e: &[u8]) -> bool
     let system = octets::byte_at(e, 0);
     let elevation = octets::byte_at(e, 3);
     let azimuth = numbers::u16_at(e, 4);
-    visible(system, octets::byte_at(e, 1))
+    satellites::visible(system, octets::byte_at(e, 1))
         & carrier_byte(system, octets::byte_at(e, 2))
         & (elevation <= 90)
         & (azimuth <= 359)

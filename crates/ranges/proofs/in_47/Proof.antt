@@ -6,9 +6,10 @@ use Prim.Native.Nat.{ℕ, _-_, _≤_, _<_}
 use native.Mathlib.Omega.{arith}
 use borrow.Author.Needs.{needs}
 use borrow.Author.Tests.{not-true, not-false, eqb-true, eqb-false}
-use Rattle.ranges.specs.Ranges.{between, satellite, placeOf}
+use Rattle.satellites.specs.Satellites.{between, satellite, placeOf}
+use Rattle.satellites.proofs.SatelliteLaws.{place-lt}
 use Rattle.ranges.proofs.BitLaws.{bit}
-use Rattle.ranges.proofs.OnceLaws.{Seen, valid, valid-is, placeAt, place-lt, seen-none, seen-more, seen-all, seen-bad, seen-twice}
+use Rattle.ranges.proofs.OnceLaws.{Seen, valid, valid-is, placeAt, seen-none, seen-more, seen-all, seen-bad, seen-twice}
 use Rattle.ranges.proofs.in_47.Statement.{statement}
 use Rattle.ranges.proofs.in_47.Tie as tie
 

@@ -1,6 +1,6 @@
--- `ranges::visible` meets its contract: by what `satellite` ensures.
-use Rattle.ranges.proofs.visible.Statement.{statement}
-use Rattle.ranges.proofs.visible.Tie as tie
+-- `satellites::visible` meets its contract: by what `satellite` ensures.
+use Rattle.satellites.proofs.visible.Statement.{statement}
+use Rattle.satellites.proofs.visible.Tie as tie
 
 satellite-requires : tie.Need-satellite-requires
 satellite-requires c κs = tt

@@ -1,7 +1,7 @@
 -- `carrier` meets its contract: a signed parameter is read back as it is.
 use mir.Facts.{toZ-ofZ}
-use Rattle.ranges.proofs.carrier.Statement.{statement}
-use Rattle.ranges.proofs.carrier.Tie as tie
+use Rattle.satellites.proofs.carrier.Statement.{statement}
+use Rattle.satellites.proofs.carrier.Tie as tie
 
 returns : tie.Need-returns
 returns c = rw (toZ-ofZ (c .fits .number))

@@ -1,11 +1,11 @@
--- `ranges::place` meets its contract: a satellite has a system and a number from 1 on.
+-- `satellites::place` meets its contract: a satellite has a system and a number from 1 on.
 use mathlib.Core.Bool.{Bool, cond}
 use mathlib.Core.Path.{sym, ap, _∙_}
 use native.Mathlib.Omega.{arith}
-use Rattle.ranges.specs.Ranges.{placeOf}
-use Rattle.ranges.proofs.OnceLaws.{Satellite, satellite-is}
-use Rattle.ranges.proofs.place.Statement.{statement}
-use Rattle.ranges.proofs.place.Tie as tie
+use Rattle.satellites.specs.Satellites.{placeOf}
+use Rattle.satellites.proofs.SatelliteLaws.{Satellite, satellite-is}
+use Rattle.satellites.proofs.place.Statement.{statement}
+use Rattle.satellites.proofs.place.Tie as tie
 
 there : (c : tie.Then1) → Satellite (c .before .before .args .system) (c .before .before .args .number)
 there c = satellite-is _ _ (sym (c .before .satellite .ensures) ∙ c .if1 .taken)
