@@ -93,7 +93,7 @@ fn read_some(bytes: &mut [u8]) -> isize
 // An input that could not be read to its end does not look like one that was.
 fn say_error(got: isize) {
     if got < 0 {
-        os::fail(b"The input totalled by an error");
+        os::fail(b"The input ended by an error");
     }
 }
 
