@@ -78,9 +78,15 @@ fn once(words: &[String]) {
         Some("library") => library::count,
         _ => usage(),
     };
-    let row: usize = word(1).and_then(|w| w.parse().ok()).unwrap_or_else(|| usage());
-    let mode: u8 = word(2).and_then(|w| w.parse().ok()).unwrap_or_else(|| usage());
-    let Some((_, fill)) = ROWS.get(row) else { usage() };
+    let row: usize = word(1)
+        .and_then(|w| w.parse().ok())
+        .unwrap_or_else(|| usage());
+    let mode: u8 = word(2)
+        .and_then(|w| w.parse().ok())
+        .unwrap_or_else(|| usage());
+    let Some((_, fill)) = ROWS.get(row) else {
+        usage()
+    };
     let input = filled(*fill, mode, 200_000);
     for _ in 0..number(word(3), 1) {
         black_box(count(black_box(mode), black_box(&input)));
