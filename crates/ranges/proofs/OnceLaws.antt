@@ -1,13 +1,13 @@
 -- Laws of 47h: 56 triples of satellites, no place among the 56 twice, are each satellite once.
 use mathlib.Core.Path.{_≡_, refl, sym, ap, _∙_}
-use mathlib.Core.Bool.{Bool, true, false, cond, _&&_, _||_, and-eq-true-iff}
+use mathlib.Core.Bool.{Bool, true, false, cond, _&&_, and-eq-true-iff}
 use mathlib.Core.List.{List}
 use Prim.Native.Nat.{ℕ, _+_, _*_, _-_, _^_, _≤_, _<_}
 use native.Mathlib.Omega.{arith}
-use borrow.Author.Tests.{eqb-true, eqb-false, leb-true, eq-eqb}
+use borrow.Author.Tests.{eqb-true, eqb-false, eq-eqb}
 use borrow.Author.Count.{below-more}
 use lib.Bits.{bitOr}
-use lib.Dec.{eqb, leb}
+use lib.Dec.{eqb}
 use Rattle.satellites.specs.Satellites.{between, satellite, placeOf}
 use Rattle.satellites.proofs.SatelliteLaws.{Satellite, satellite-is, by-system, place-lt}
 use Rattle.ranges.specs.Ranges.{count, all, once, in47}
