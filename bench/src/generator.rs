@@ -10,9 +10,9 @@ const NOTABLE: [u8; 32] = [
 ];
 
 /// Lengths that some kind allows, and their neighbours.
-const LENGTHS: [usize; 34] = [
-    0, 1, 2, 3, 5, 6, 7, 8, 9, 10, 11, 14, 25, 26, 27, 32, 33, 34, 41, 42, 43, 92, 93, 94, 129,
-    130, 131, 167, 168, 169, 518, 525, 526, 532,
+const LENGTHS: [usize; 42] = [
+    0, 1, 2, 3, 5, 6, 7, 8, 9, 10, 11, 14, 25, 26, 27, 28, 32, 33, 34, 41, 42, 43, 56, 57, 58, 92,
+    93, 94, 129, 130, 131, 167, 168, 169, 518, 525, 526, 532, 986, 987, 988, 1017,
 ];
 
 /// xorshift64*.
@@ -148,7 +148,7 @@ impl Random {
         }
     }
 
-    /// The data of an acceptable message of one of the twenty kinds.
+    /// The data of an acceptable message of one of the twenty-one kinds.
     pub fn acceptable(&mut self, id: u8) -> Vec<u8> {
         let mut body = Vec::new();
         match id {
@@ -217,7 +217,15 @@ impl Random {
                 };
                 self.in_view(entries, &mut body);
             }
-            _ => unreachable!("not one of the twenty"),
+            0xF5 => {
+                let channels = match self.below(8) {
+                    0 => 32,
+                    1 => self.below(33),
+                    _ => self.below(4),
+                };
+                self.free(27 + 30 * channels, &mut body);
+            }
+            _ => unreachable!("not one of the twenty-one"),
         }
         body
     }

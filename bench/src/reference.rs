@@ -1,4 +1,4 @@
-//! The BINR line of an NV08C receiver: reader, checksum, the twenty kinds, writer, listing.
+//! The BINR line of an NV08C receiver: reader, checksum, the twenty-one kinds, writer, listing.
 //!
 //! Written from the scope paper alone, so that it can disagree with the library. Numbers of
 //! places, refusals and questions are those of the paper.
@@ -79,10 +79,10 @@ pub fn frame_checksum(id: u8, data: &[u8]) -> u16 {
 // ---------------------------------------------------------------------------------------
 // Kinds
 
-/// The twenty identifiers, in the order of the paper.
-pub const KINDS: [u8; 20] = [
+/// The twenty-one identifiers, in the order of the papers.
+pub const KINDS: [u8; 21] = [
     0x1B, 0x1E, 0x26, 0x54, 0x21, 0x24, 0x27, 0x2A, 0x1F, 0xF4, 0x20, 0x23, 0x43, 0x46, 0x47, 0x49,
-    0x4A, 0x4B, 0xEB, 0x52,
+    0x4A, 0x4B, 0xEB, 0x52, 0xF5,
 ];
 
 /// Questions 10 to 12 about a message.
@@ -107,6 +107,7 @@ pub fn judge(id: u8, data: &[u8]) -> Result<(), Refusal> {
         0x4B => n == 42,
         0x52 => n.is_multiple_of(7) && n / 7 <= 75,
         0xEB => n == 26,
+        0xF5 => n >= 27 && (n - 27).is_multiple_of(30) && (n - 27) / 30 <= 32,
         _ => return Err(Refusal::Unlisted),
     };
     if !length_allowed {

@@ -21,7 +21,7 @@ const UNTOUCHED: u8 = 0xA5;
 const MARGIN: usize = 64;
 
 /// Lengths that become allowed ones if a count is cut to 8 or 16 bits.
-const WRAPPED: [usize; 13] = [
+const WRAPPED: [usize; 16] = [
     256,
     256 + 1,
     256 + 2,
@@ -29,12 +29,15 @@ const WRAPPED: [usize; 13] = [
     256 + 10,
     256 + 93,
     512 + 130,
+    1024 + 27,
     65_536,
     65_536 + 1,
     65_536 + 2,
     65_536 + 10,
     65_536 + 33,
+    65_536 + 27,
     65_536 + 525,
+    65_536 + 987,
 ];
 
 fn main() {
@@ -351,7 +354,7 @@ impl Comparison {
             }
             // About the most data that a reader holds, with and without doubled bytes at and
             // past the limit.
-            for id in [0x88, 0x52, 0x4B] {
+            for id in [0x88, 0x52, 0x4B, 0xF5] {
                 for length in 1020..=1030 {
                     for (filler, tail) in [(0x00, 0x00), (0x00, DLE), (DLE, 0x00), (DLE, DLE)] {
                         let mut body = vec![filler; length];
@@ -366,6 +369,13 @@ impl Comparison {
                 let mut body = Vec::new();
                 self.random.in_view(entries, &mut body);
                 self.list(mode, &frame(mode, 0x52, &body))?;
+            }
+            for channels in [0, 1, 31, 32, 33] {
+                for length in 26 + 30 * channels..=28 + 30 * channels {
+                    for filler in [0x00, DLE] {
+                        self.list(mode, &frame(mode, 0xF5, &vec![filler; length]))?;
+                    }
+                }
             }
         }
         // Every byte at every place, from every short start.

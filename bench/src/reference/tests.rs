@@ -163,6 +163,32 @@ fn most_entries() {
 }
 
 #[test]
+fn most_channels() {
+    for (length, number) in [
+        (0, 11),
+        (26, 11),
+        (27, 0),
+        (28, 11),
+        (56, 11),
+        (57, 0),
+        (58, 11),
+        (986, 11),
+        (987, 0),
+        (988, 11),
+        (1017, 11),
+    ] {
+        for filler in [0x00, DLE, 0xFF] {
+            assert_eq!(judged(0xF5, &vec![filler; length]), number);
+            for mode in [0, 1] {
+                let bytes = generator::frame(mode, 0xF5, &vec![filler; length]);
+                let n = bytes.len();
+                assert!(listed(mode, &bytes).starts_with(&format!("{} F5 {number} {n}\n", n - 1)));
+            }
+        }
+    }
+}
+
+#[test]
 fn refusals_of_the_table() {
     assert_eq!(
         listed(0, &[0x10, 0x26, 0x10, 0xFF, 0x10, 0x54, 0x10, 0x03]),

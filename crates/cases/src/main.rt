@@ -226,7 +226,7 @@ fn write(s: &[u8]) {
     if s.len() < 5 {
         return;
     }
-    let mut buf = [0x5Au8; 640];
+    let mut buf = [0x5Au8; 2048];
     write_in(
         s[1],
         s[2],

@@ -44,6 +44,12 @@ module _ {A : Type 0} where
   firsts-take l z zero h = refl
   firsts-take l z (suc n) h = rw (firsts-take l z n (omega arith), take-suc l n z (omega arith))
 
+  -- within a list the default plays no part
+  pub getD-any : (l : List A) (i : ℕ) (y z : A) → i < length l → getD l i y ≡ getD l i z
+  getD-any [] i y z h = absurd (omega arith)
+  getD-any (x ∷ l) zero y z h = refl
+  getD-any (x ∷ l) (suc i) y z h = getD-any l i y z (omega arith)
+
   getD-firsts : (f : ℕ → A) (z : A) (n i : ℕ) (r : List A) → i < n → getD (firsts f n ++ r) i z ≡ f i
   unfolding firsts
   getD-firsts f z zero i r h = absurd (omega arith)
@@ -53,28 +59,32 @@ module _ {A : Type 0} where
       go true e ih = let q : i ≡ n = eqb-true i n e in rw q (getD-at (firsts f n) (f n) r z n (length-firsts f n))
       go false e ih = let q = eqb-false i n e in ih (omega arith)
 
-module _ (g : ℕ → List ℕ) (w : ℕ) (long : (i : ℕ) → length (g i) ≡ w) where
-  length-laid : (n : ℕ) → length (laidOut g n) ≡ w * n
+module _ (g : ℕ → List ℕ) (w : ℕ) where
+  length-laid : (n : ℕ) → ((i : ℕ) → i < n → length (g i) ≡ w) → length (laidOut g n) ≡ w * n
   unfolding laidOut
-  length-laid zero = sym (mul-zero w)
-  length-laid (suc n) = rw (length-append (laidOut g n) (g n), length-laid n, long n) (sym (mul-suc w n))
+  length-laid zero long = sym (mul-zero w)
+  length-laid (suc n) long =
+      rw (length-append (laidOut g n) (g n), length-laid n (λ i l. long i (omega arith)), long n (omega arith)) (sym (mul-suc w n))
 
   -- the bytes at i among those that were laid out
-  laid-at : (n i : ℕ) → i < n → take w (drop (w * i) (laidOut g n)) ≡ g i
+  laid-at : (n i : ℕ) → ((j : ℕ) → j < n → length (g j) ≡ w) → i < n → take w (drop (w * i) (laidOut g n)) ≡ g i
   unfolding laidOut
-  laid-at zero i l = absurd (omega arith)
-  laid-at (suc n) i l = go (eqb i n) refl (λ k. laid-at n i k)
+  laid-at zero i long l = absurd (omega arith)
+  laid-at (suc n) i long l = go (eqb i n) refl (λ k. laid-at n i (λ j m. long j (omega arith)) k)
     where
+      all : length (laidOut g n) ≡ w * n
+      all = length-laid n (λ j m. long j (omega arith))
+
       go : (t : Bool) → eqb i n ≡ t → (i < n → take w (drop (w * i) (laidOut g n)) ≡ g i)
           → take w (drop (w * i) (laidOut g n ++ g n)) ≡ g i
       go true e ih =
           let q : i ≡ n = eqb-true i n e in
-          rw (q, drop-at (laidOut g n) (g n) (w * n) (length-laid n)) (take-all w (g n) (omega (arith, long n)))
+          rw (q, drop-at (laidOut g n) (g n) (w * n) all) (take-all w (g n) (omega (arith, long n (omega arith))))
       go false e ih =
           let k : i < n = (let q = eqb-false i n e in omega arith) in
           let m : w * i + w ≤ w * n = omega (arith, mul-suc w i, mul-le-mul-left w k) in
-          let a : w * i ≤ length (laidOut g n) = omega (arith, length-laid n) in
-          let b : w ≤ length (drop (w * i) (laidOut g n)) = rw length-drop (omega (arith, length-laid n)) in
+          let a : w * i ≤ length (laidOut g n) = omega (arith, all) in
+          let b : w ≤ length (drop (w * i) (laidOut g n)) = rw length-drop (omega (arith, all)) in
           rw (drop-append-le (w * i) (laidOut g n) (g n) a, take-append-le w (drop (w * i) (laidOut g n)) (g n) b) (ih k)
 
 -- all the pieces of some data
@@ -89,8 +99,9 @@ laid-same g h zero e = refl
 laid-same g h (suc n) e = rw (laid-same g h n (λ i l. e i (omega arith)), e n (omega arith))
 
 module _ {E : Type 0} (s : Series E) where
-  abbrev Long : Type 0
-  Long = (e : E) → length (s .entryData e) ≡ s .width
+  -- each of the first n entries takes as many bytes as the width says
+  abbrev pub Long : List E → ℕ → Type 0
+  Long es n = (i : ℕ) → i < n → length (s .entryData (getD es i (s .blank))) ≡ s .width
 
   pub entry-length : (d : List ℕ) (i : ℕ) → s .header + s .width * i + s .width ≤ length d → length (entrySlice s d i) ≡ s .width
   entry-length d i h = length-take-le (s .width) (drop (s .header + s .width * i) d) (rw length-drop (omega arith))
@@ -116,50 +127,57 @@ module _ {E : Type 0} (s : Series E) where
       (λ k. set (q k) i ((r ∙ (λ m. s .entryOf (take (n m) (drop (p m) d)))) k))
       ∙ fill-more (λ j. s .entryOf (entrySlice s d j)) (s .blank) (s .most) i l
 
-  pub length-entries : Long → (es : List E) (n : ℕ) → length (entriesData s es n) ≡ s .width * n
-  length-entries long es n = length-laid (λ i. s .entryData (getD es i (s .blank))) (s .width) (λ i. long (getD es i (s .blank))) n
+  pub length-entries : (es : List E) (n : ℕ) → Long es n → length (entriesData s es n) ≡ s .width * n
+  length-entries es n long = length-laid (λ i. s .entryData (getD es i (s .blank))) (s .width) n long
+
+  pub long-more : (es : List E) (i : ℕ) → Long es i → length (s .entryData (getD es i (s .blank))) ≡ s .width → Long es (i + 1)
+  long-more es i long one j h = go (eqb j i) refl
+    where
+      go : (t : Bool) → eqb j i ≡ t → length (s .entryData (getD es j (s .blank))) ≡ s .width
+      go true e = let q : j ≡ i = eqb-true j i e in rw q one
+      go false e = let q = eqb-false j i e in long j (omega arith)
 
   -- one entry more, placed right after those before it
-  pub laid-more : Long → (b : List ℕ) (es : List E) (i at : ℕ) → at ≡ s .header + s .width * i → at + s .width ≤ length b
+  pub laid-more : (b : List ℕ) (es : List E) (i at : ℕ) → Long es (i + 1) → at ≡ s .header + s .width * i → at + s .width ≤ length b
       → (all : List ℕ) → all ≡ placed b (s .header) (entriesData s es i) → (x : List ℕ) → x ≡ s .entryData (getD es i (s .blank))
       → placed all at x ≡ placed b (s .header) (entriesData s es (i + 1))
   unfolding laidOut
-  laid-more long b es i at p r all q x y =
-      let l = length-entries long es i in
+  laid-more b es i at long p r all q x y =
+      let l = length-entries es i (λ j m. long j (omega arith)) in
       let g = s .entryData (getD es i (s .blank)) in
       let t : at ≡ s .header + length (entriesData s es i) = omega arith in
-      let k : s .header + length (entriesData s es i) + length g ≤ length b = omega (arith, long (getD es i (s .blank))) in
+      let k : s .header + length (entriesData s es i) + length g ≤ length b = omega (arith, long i (omega arith)) in
       (λ k. placed (q k) (t k) (y k)) ∙ rw add-one (placed-more b (s .header) (entriesData s es i) g k)
 
   -- all entries are placed: the header's bytes, and theirs
-  pub laid-done : Long → (b : List ℕ) (es : List E) (n : ℕ) → s .header + s .width * n ≤ length b
+  pub laid-done : (b : List ℕ) (es : List E) (n : ℕ) → Long es n → s .header + s .width * n ≤ length b
       → take (s .header + s .width * n) (placed b (s .header) (entriesData s es n)) ≡ take (s .header) b ++ entriesData s es n
-  laid-done long b es n h =
-      let l = length-entries long es n in
+  laid-done b es n long h =
+      let l = length-entries es n long in
       let d = entriesData s es n in
       let k : length (take (s .header) b) ≡ s .header = length-take-le (s .header) b (omega arith) in
       let t : s .header + s .width * n ≡ length (take (s .header) b) + length d = omega arith in
       let rest = drop (s .header + length d) b in
       rw (placed-fits b (s .header) d (omega arith), t, take-append-add (take (s .header) b) (d ++ rest) (length d), take-at d rest (length d) refl)
 
-  pub laid-whole : Long → (b : List ℕ) (es : List E) (n : ℕ) → s .header + s .width * n ≡ length b
+  pub laid-whole : (b : List ℕ) (es : List E) (n : ℕ) → Long es n → s .header + s .width * n ≡ length b
       → placed b (s .header) (entriesData s es n) ≡ take (s .header) b ++ entriesData s es n
-  laid-whole long b es n h =
+  laid-whole b es n long h =
       let l = length-placed b (s .header) (entriesData s es n) in
       sym (take-all (s .header + s .width * n) (placed b (s .header) (entriesData s es n)) (omega arith))
-      ∙ laid-done long b es n (omega arith)
+      ∙ laid-done b es n long (omega arith)
 
   -- what is read of one entry is read of all of them
-  pub read-laid : Long → (Fits : E → Type 0) → ((e : E) → Fits e → s .entryOf (s .entryData e) ≡ e)
-      → (top : List ℕ) → length top ≡ s .header → (es : List E) (n : ℕ) → n ≤ length es
+  pub read-laid : (Fits : E → Type 0) → ((e : E) → Fits e → s .entryOf (s .entryData e) ≡ e)
+      → (top : List ℕ) → length top ≡ s .header → (es : List E) (n : ℕ) → Long es n → n ≤ length es
       → ((i : ℕ) → i < n → Fits (getD es i (s .blank)))
       → entriesOf s (top ++ entriesData s es n) n ≡ keptEntries s es n
-  read-laid long Fits one top t es n h fit =
+  read-laid Fits one top t es n long h fit =
       let g : ℕ → List ℕ = λ i. s .entryData (getD es i (s .blank)) in
       let at : (i : ℕ) → i < n → entrySlice s (top ++ laidOut g n) i ≡ g i = λ i k.
       ap (take (s .width)) (sym (drop-drop (s .width * i) (s .header) (top ++ laidOut g n)))
       ∙ (λ m. take (s .width) (drop (s .width * i) (drop-at top (laidOut g n) (s .header) t m)))
-      ∙ laid-at g (s .width) (λ j. long (getD es j (s .blank))) n i k in
+      ∙ laid-at g (s .width) n i long k in
       ap (λ (l : List E). l ++ replicate (s .most - n) (s .blank))
       (firsts-same (λ i. s .entryOf (entrySlice s (top ++ laidOut g n) i)) (λ i. getD es i (s .blank)) n
       (λ i k. ap (s .entryOf) (at i k) ∙ one (getD es i (s .blank)) (fit i k))

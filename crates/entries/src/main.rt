@@ -1,16 +1,20 @@
 // Reads calls as hexadecimal text, a line each, and prints how the kinds with entries are decoded and encoded, and what lookup finds.
 // A line that starts with # is printed as it is. Any other is one of
-// - 47 or 52, an index, a field's number, a value, room in two bytes, low byte first, data
+// - 47, 52 or F5, an index, a field's number, a value, room in two bytes, low byte first, data
 // - 00, system, number, three bytes without meaning, data of 52h
 //
-// The data are decoded; the field of this number in the entry at this index gets the value (0: none; 1 of 52h: the number of entries),
-// and the fields are encoded into so many bytes of a buffer of 5A. Such a line has the refusal of the data and, where there is none,
-// the number of entries and each entry; then the refusal and the length of the encoding, and last the buffer up to four bytes past the
-// room. A line of lookup has the index, none, or the refusal.
+// The data are decoded; the field of this number in the entry at this index gets the value (0: none; 1 of 52h and F5h: the number of
+// entries; 8 to 12 of F5h: the header's), and the fields are encoded into so many bytes of a buffer of 5A. Such a line has the refusal
+// of the data and, where there is none, the header of F5h (FP64 as hexadecimal bits), the number of entries and each entry, in F5h with
+// its 26 bytes as they are; then the refusal and the length of the encoding, and last the buffer up to four bytes past the room. A line
+// of lookup has the index, none, or the refusal.
 use fields_47::Use;
 use fields_47::Uses;
 use fields_52::Entry;
 use fields_52::Visible;
+use fields_f5::Channel;
+use fields_f5::Header;
+use fields_f5::Measurements;
 use lookup::Found;
 use octets::Written;
 
@@ -204,6 +208,139 @@ fn run_52(d: &[u8], at: usize, which: u8, value: u8, buf: &mut [u8]) {
     answer(fields_52::encode_52(changed_52(f, at, which, value), buf));
 }
 
+fn bits(n: u64) {
+    io::write_all(1, b" ");
+    io::print_hex(1, n, 16);
+}
+
+fn show_header(h: Header) {
+    bits(h.time);
+    half(h.week);
+    bits(h.gps_shift);
+    bits(h.glonass_shift);
+    int8(h.correction);
+}
+
+fn show_channel(c: Channel) {
+    let rest = c.rest;
+    io::write_all(1, b",");
+    octet(c.signal_type);
+    octet(c.number);
+    octet(c.carrier);
+    octet(c.level);
+    io::write_all(1, b" ");
+    octets(&rest, 26);
+}
+
+fn show_f5(f: Measurements) {
+    let channels = f.channels;
+    let n = f.n;
+    let mut i: usize = 0;
+    show_header(f.header);
+    size(n);
+    while i < n {
+        if 32 <= i {
+            return;
+        }
+        let c = channels[i];
+        show_channel(c);
+        i += 1;
+    }
+}
+
+fn changed_header(h: Header, which: u8, value: u8) -> Header {
+    let mut g = h;
+    match which {
+        8 => {
+            g.time = value as u64;
+            g
+        }
+        9 => {
+            g.week = value as u16;
+            g
+        }
+        10 => {
+            g.gps_shift = value as u64;
+            g
+        }
+        11 => {
+            g.glonass_shift = value as u64;
+            g
+        }
+        12 => {
+            g.correction = numbers::int8_of(value);
+            g
+        }
+        _ => g,
+    }
+}
+
+// Of the 26 bytes the first (6) or the last (7).
+fn changed_channel(c: Channel, which: u8, value: u8) -> Channel {
+    let mut g = c;
+    let mut rest = c.rest;
+    match which {
+        2 => {
+            g.signal_type = value;
+            g
+        }
+        3 => {
+            g.number = value;
+            g
+        }
+        4 => {
+            g.carrier = value;
+            g
+        }
+        5 => {
+            g.level = value;
+            g
+        }
+        6 => {
+            rest[0] = value;
+            g.rest = rest;
+            g
+        }
+        7 => {
+            rest[25] = value;
+            g.rest = rest;
+            g
+        }
+        _ => g,
+    }
+}
+
+fn changed_f5(f: Measurements, at: usize, which: u8, value: u8) -> Measurements {
+    let header = f.header;
+    let mut channels = f.channels;
+    let mut n = f.n;
+    if which == 1 {
+        n = value as usize;
+    }
+    if at < 32 {
+        let c = channels[at];
+        let g = changed_channel(c, which, value);
+        channels[at] = g;
+    }
+    let h = changed_header(header, which, value);
+    Measurements {
+        header: h,
+        n: n,
+        channels: channels,
+    }
+}
+
+fn run_f5(d: &[u8], at: usize, which: u8, value: u8, buf: &mut [u8]) {
+    let r = fields_f5::decode_f5(d);
+    octet(r.refusal);
+    if r.refusal != 0 {
+        return;
+    }
+    let f = r.fields;
+    show_f5(f);
+    answer(fields_f5::encode_f5(changed_f5(f, at, which, value), buf));
+}
+
 fn run_lookup(d: &[u8], system: u8, satellite: u8) {
     match lookup::find_satellite(d, system, satellite) {
         Found::At(i) => size(i),
@@ -226,6 +363,7 @@ fn run(s: &[u8], buf: &mut [u8]) {
     match s[0] {
         0x47 => run_47(d, at, s[2], s[3], buf),
         0x52 => run_52(d, at, s[2], s[3], buf),
+        0xF5 => run_f5(d, at, s[2], s[3], buf),
         _ => run_lookup(d, s[1], s[2]),
     }
 }
@@ -240,7 +378,7 @@ fn run_in(s: &[u8], room: usize, buf: &mut [u8]) {
 }
 
 fn call(s: &[u8]) {
-    let mut buf = [0x5Au8; 544];
+    let mut buf = [0x5Au8; 1024];
     octets(s, 3);
     run_in(s, numbers::u16_at(s, 4) as usize, &mut buf);
     io::write_all(1, b"\n");

@@ -24,7 +24,7 @@ read-data : (f : Uses) → length (f .triples) ≡ 56 → fieldsOf (dataOf f) �
 read-data f l =
     let all : take 56 (f .triples) ≡ f .triples = ap (λ (i : ℕ). take i (f .triples)) (sym l) ∙ take-length (f .triples) in
     let e : entriesOf uses (dataOf f) 56 ≡ f .triples =
-    read-laid uses (λ _. refl) (λ _. Unit {0}) (λ e t. refl) [] refl (f .triples) 56 (omega arith) (λ i k. tt)
+    read-laid uses (λ _. Unit {0}) (λ e t. refl) [] refl (f .triples) 56 (λ _ _. refl) (omega arith) (λ i k. tt)
     ∙ append-nil (take 56 (f .triples))
     ∙ all in
     λ k. record { triples = e k }

@@ -72,8 +72,8 @@ entry-written s l y =
 read-data : (f : Visible) → length (f .entries) ≡ 75 → f .n ≤ 75 → ((i : ℕ) → i < f .n → InTypes (getD (f .entries) i blank))
     → fieldsOf (dataOf f) ≡ record { n = f .n; entries = keptEntries visibles (f .entries) (f .n) }
 read-data f l m t =
-    let n : length (dataOf f) / 7 ≡ f .n = omega (arith, length-entries visibles (λ _. refl) (f .entries) (f .n)) in
-    let e = read-laid visibles (λ _. refl) InTypes entry-read [] refl (f .entries) (f .n) (omega arith) t in
+    let n : length (dataOf f) / 7 ≡ f .n = omega (arith, length-entries visibles (f .entries) (f .n) (λ _ _. refl)) in
+    let e = read-laid visibles InTypes entry-read [] refl (f .entries) (f .n) (λ _ _. refl) (omega arith) t in
     λ k. record { n = n k; entries = ((λ j. entriesOf visibles (dataOf f) (n j)) ∙ e) k }
 
 data-read : (d : List ℕ) → Bytes d → content 0x52 d ≡ 0 → dataOf (fieldsOf d) ≡ d

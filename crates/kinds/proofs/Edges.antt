@@ -65,6 +65,8 @@ kinds =
     ∷ edges 0x52 ([] ∷ (1 ∷ 1 ∷ 255 ∷ replicate 4 0) ∷ (1 ∷ 32 ∷ 255 ∷ 90 ∷ 103 ∷ 1 ∷ 255 ∷ []) ∷ (2 ∷ 1 ∷ 249 ∷ replicate 4 0) ∷ (2 ∷ 24 ∷ 13 ∷ replicate 4 0) ∷ (4 ∷ 120 ∷ 255 ∷ replicate 4 0) ∷ (4 ∷ 139 ∷ 255 ∷ replicate 4 0) ∷ (4 ∷ 158 ∷ 255 ∷ replicate 4 0) ∷ times 75 (1 ∷ 1 ∷ 255 ∷ replicate 4 0) ∷ [])
     ((1 ∷ 0 ∷ 255 ∷ replicate 4 0) ∷ (1 ∷ 33 ∷ 255 ∷ replicate 4 0) ∷ (2 ∷ 0 ∷ 0 ∷ replicate 4 0) ∷ (2 ∷ 25 ∷ 0 ∷ replicate 4 0) ∷ (4 ∷ 119 ∷ 255 ∷ replicate 4 0) ∷ (4 ∷ 159 ∷ 255 ∷ replicate 4 0) ∷ (3 ∷ 1 ∷ 255 ∷ replicate 4 0) ∷ (1 ∷ 1 ∷ replicate 5 0) ∷ (2 ∷ 1 ∷ 248 ∷ replicate 4 0) ∷ (2 ∷ 1 ∷ 14 ∷ replicate 4 0) ∷ (4 ∷ 120 ∷ replicate 5 0) ∷ (1 ∷ 1 ∷ 255 ∷ 91 ∷ replicate 3 0) ∷ (1 ∷ 1 ∷ 255 ∷ 0 ∷ 104 ∷ 1 ∷ 0 ∷ []) ∷ (1 ∷ 1 ∷ 255 ∷ (replicate 4 0 ++ (1 ∷ 33 ∷ 255 ∷ replicate 4 0))) ∷ [])
     ((replicate 6 0) ∷ (1 ∷ 1 ∷ 255 ∷ replicate 5 0) ∷ times 76 (1 ∷ 1 ∷ 255 ∷ replicate 4 0) ∷ [])
+    ∷ edges 0xF5 (replicate 27 255 ∷ replicate 57 0x10 ∷ replicate 987 0 ∷ []) []
+    ([] ∷ replicate 26 0 ∷ replicate 28 0 ∷ replicate 56 0 ∷ replicate 58 0 ∷ replicate 986 0 ∷ replicate 988 0 ∷ replicate 1017 0 ∷ [])
     ∷ []
 
 -- the answers, and what they should be
@@ -79,6 +81,6 @@ unfolding edges triples times kinds answers expected numberOf numberAt signed al
 edges-hold = refl
 
 -- no other identifier is listed: the service codes, and neighbours of those that are
-pub unlisted : map (λ i. content i []) (0x00 ∷ 0x03 ∷ 0x10 ∷ 0x1A ∷ 0x1C ∷ 0x22 ∷ 0x45 ∷ 0x4C ∷ 0xF5 ∷ 0xFF ∷ []) ≡ replicate 10 10
+pub unlisted : map (λ i. content i []) (0x00 ∷ 0x03 ∷ 0x10 ∷ 0x1A ∷ 0x1C ∷ 0x22 ∷ 0x45 ∷ 0x4C ∷ 0xF6 ∷ 0xFF ∷ []) ≡ replicate 10 10
 unfolding table rowIn content
 unlisted = refl

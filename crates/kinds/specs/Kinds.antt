@@ -1,4 +1,4 @@
--- Document 01, "Kinds and fields" and questions 10 to 12: the twenty kinds, and what is acceptable.
+-- Document 01, "Kinds and fields" and questions 10 to 12: the twenty-one kinds (F5h is of document 02), and what is acceptable.
 use mathlib.Core.Bool.{Bool, true, cond, _&&_, _||_}
 use mathlib.Core.List.{List, [], _∷_}
 use mathlib.Core.Option.{Option, none, some}
@@ -48,6 +48,7 @@ table =
     ∷ only 0x4B 42 free
     ∷ only 0xEB 26 inEB
     ∷ entries 0x52 0 7 75 in52
+    ∷ entries 0xF5 27 30 32 free
     ∷ []
 
 -- question 10: the row of an identifier

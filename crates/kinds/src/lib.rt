@@ -1,5 +1,5 @@
-// The kinds of message of document 01, and which messages are acceptable: its questions 10 to 12.
-mod table; // questions 10 and 11: the twenty kinds and their lengths
+// The kinds of message, and which messages are acceptable: document 01's questions 10 to 12.
+mod table; // questions 10 and 11: the twenty-one kinds and their lengths
 
 ghost use mathlib.Core.Path.{_≡_};
 ghost use Rattle.kinds.specs.Kinds.{table, rowIn, listed, allows, chosen49, lengthOk, inRange, content};
@@ -38,7 +38,7 @@ fn find_kind(id: u8) -> Listed
 {
     let kinds = table::KINDS;
     let mut i: usize = 0;
-    while i < 20 {
+    while i < 21 {
         let k = kinds[i];
         if k.id == id {
             return Listed::As(k);

@@ -1,4 +1,4 @@
-// The table of kinds, in the order of document 01.
+// The table of kinds, in the order of document 01; F5h is of document 02.
 use crate::Kind;
 use crate::LENGTH_4A;
 use crate::LENGTH_4B;
@@ -6,7 +6,7 @@ use crate::LENGTH_43;
 use crate::LENGTH_46;
 use crate::LENGTH_EB;
 
-pub const KINDS: [Kind; 20] = [
+pub const KINDS: [Kind; 21] = [
     Kind {
         id: 0x1B,
         short: 0,
@@ -166,5 +166,13 @@ pub const KINDS: [Kind; 20] = [
         header: 0,
         width: 7,
         most: 75,
+    },
+    Kind {
+        id: 0xF5,
+        short: 27,
+        long: 27,
+        header: 27,
+        width: 30,
+        most: 32,
     },
 ];

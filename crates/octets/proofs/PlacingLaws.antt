@@ -1,7 +1,7 @@
 -- Laws of what a write leaves in a buffer: what callers use in place of its text.
 use mathlib.Core.Path.{_≡_, refl, sym, ap, _∙_}
 use mathlib.Core.Bool.{Bool, true, false}
-use mathlib.Core.List.{List, [], _∷_, _++_, append-assoc}
+use mathlib.Core.List.{List, [], _∷_, _++_, append-assoc, append-nil}
 use Prim.Native.Nat.{ℕ, _+_, _≤_, _<_}
 use native.Mathlib.Nat.{add-zero, add-assoc, zero-add}
 use native.Mathlib.Numerals.{add-one}
@@ -9,7 +9,7 @@ use native.Mathlib.Omega.{arith}
 use borrow.Author.Tests.{le-leb, lt-leb, leb-true, leb-false}
 use lib.Dec.{leb}
 use lib.ListN.{length, take, drop, set, length-append, length-drop, take-append-drop}
-use lib.Seq.{take-at, drop-append-add, drop-drop, length-take-le, set-split}
+use lib.Seq.{take-at, drop-append-add, drop-drop, drop-length, length-take-le, set-split}
 use Rattle.octets.specs.Placing.{placed}
 
 -- where the bytes are within d, and where not
@@ -78,3 +78,9 @@ placed-cons d at b s h =
 -- from the start on
 pub placed-start : (d s : List ℕ) → length s ≤ length d → placed d 0 s ≡ s ++ drop (length s) d
 placed-start d s h = let k : 0 + length s ≤ length d = omega arith in placed-fits d 0 s k ∙ rw zero-add
+
+-- as many as there are
+pub placed-whole : (d s : List ℕ) → length s ≡ length d → placed d 0 s ≡ s
+placed-whole d s e =
+    let z : drop (length s) d ≡ [] = ap (λ (j : ℕ). drop j d) e ∙ drop-length d in
+    placed-start d s (omega arith) ∙ rw z (append-nil s)

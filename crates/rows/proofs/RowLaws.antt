@@ -1,7 +1,7 @@
 -- Laws of rows, over any list of widths: how they are put one after the other, and that reading and writing are inverse.
 use mathlib.Core.Path.{_≡_, refl, sym, ap, _∙_}
 use mathlib.Core.Bool.{Bool, true, false, cond, _&&_, and-eq-true-iff, and-false}
-use mathlib.Core.List.{List, [], _∷_, _++_, append-assoc, append-nil}
+use mathlib.Core.List.{List, [], _∷_, _++_, append-assoc}
 use Prim.Native.Nat.{ℕ, zero, suc, _+_, _-_, _*_, _/_, _^_, _≤_, _<_}
 use native.Mathlib.Nat.{add-zero, zero-add, pow-suc}
 use native.Mathlib.Numerals.{add-one}
@@ -17,7 +17,7 @@ use Rattle.octets.specs.Placing.{placed}
 use Rattle.numbers.specs.Signed.{signed, unsigned}
 use Rattle.numbers.proofs.NumberLaws.{length-bytes, number-bytes, bytes-number, number-lt, number-in}
 use Rattle.numbers.proofs.SignedLaws.{signed-unsigned, unsigned-signed}
-use Rattle.octets.proofs.PlacingLaws.{placed-nil, placed-more, placed-start, length-placed}
+use Rattle.octets.proofs.PlacingLaws.{placed-nil, placed-more, placed-whole, length-placed}
 use Rattle.rows.specs.Layout.{Row, natural, integer, width, bits, Held, AllHeld, joined, laid, total, short, within, packs, packed}
 
 pub length-laid : (ns xs : List ℕ) → length ns ≤ length xs → length (laid ns xs) ≡ total ns
@@ -152,8 +152,7 @@ left-none ns xs first out at i l h k t =
     let m : length all ≡ length first = length-laid ns xs k ∙ t in
     let d : drop i ns ≡ [] = ap (λ (j : ℕ). drop j ns) h ∙ drop-length ns in
     let e : placed out at [] ≡ placed first 0 all = rw d at (l .is) in
-    let z : drop (length all) first ≡ [] = ap (λ (j : ℕ). drop j first) m ∙ drop-length first in
-    sym (placed-nil out at) ∙ e ∙ placed-start first all (omega arith) ∙ rw z (append-nil all)
+    sym (placed-nil out at) ∙ e ∙ placed-whole first all m
 
 -- a row of the same type with these bits
 abbrev again : Row → ℕ → Row

@@ -37,7 +37,7 @@ loop-again c =
     let d = p .before .before .before in
     let l = d .before .before .before in
     let i = l .loop .i in
-    let more = laid-more uses (λ _. refl) zeros (l .before .args .t1) i (3 * i) (omega arith) (omega arith) in (
+    let more = laid-more uses zeros (l .before .args .t1) i (3 * i) (λ _ _. refl) (omega arith) (omega arith) in (
       omega arith,
       p .put .ensures .1 ∙ more _ (l .loop .inv .1) _ (d .entry-data .ensures),
     )
@@ -46,7 +46,7 @@ returns : tie.Need-returns Inv-loop μ-loop
 returns c =
     let l = c .before in
     let e : l .loop .i ≡ 56 = omega arith in
-    rw (l .loop .inv .1, e) (laid-whole uses (λ _. refl) zeros (l .before .args .t1) 56 refl)
+    rw (l .loop .inv .1, e) (laid-whole uses zeros (l .before .args .t1) 56 (λ _ _. refl) refl)
 
 pub entries-data-spec : {M : Type 1} → statement M
 entries-data-spec =

@@ -37,7 +37,7 @@ loop-again c =
     let d = p .before .before .before in
     let l = d .before .before .before in
     let i = l .loop .i in
-    let more = laid-more visibles (λ _. refl) zeros (l .before .args .t1) i (7 * i) (omega arith) (omega arith) in (
+    let more = laid-more visibles zeros (l .before .args .t1) i (7 * i) (λ _ _. refl) (omega arith) (omega arith) in (
       omega arith,
       p .put .ensures .1 ∙ more _ (l .loop .inv .1) _ (d .entry-data .ensures),
     )
@@ -48,7 +48,7 @@ returns c =
     let g = l .before .args in
     let e : l .loop .i ≡ g .n = omega arith in
     let m : 7 * g .n ≡ 0 + 7 * g .n = omega arith in
-    rw (l .loop .inv .1, e, m) (laid-done visibles (λ _. refl) zeros (g .t1) (g .n) (omega arith))
+    rw (l .loop .inv .1, e, m) (laid-done visibles zeros (g .t1) (g .n) (λ _ _. refl) (omega arith))
 
 pub entries-data-spec : {M : Type 1} → statement M
 entries-data-spec =

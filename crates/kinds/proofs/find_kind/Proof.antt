@@ -10,10 +10,10 @@ use Rattle.kinds.proofs.find_kind.Statement.{statement}
 use Rattle.kinds.proofs.find_kind.Tie as tie
 
 abbrev Inv-loop : tie.InvT-loop
-Inv-loop id kinds i₀ i = (i ≤ 20) × (rowIn (drop i table) id ≡ rowIn table id) × (kinds ≡ kindsOf table)
+Inv-loop id kinds i₀ i = (i ≤ 21) × (rowIn (drop i table) id ≡ rowIn table id) × (kinds ≡ kindsOf table)
 
 abbrev μ-loop : tie.MeasureT-loop
-μ-loop id kinds i₀ i = 20 - i
+μ-loop id kinds i₀ i = 21 - i
 
 loop-holds : tie.Need-loop-holds Inv-loop μ-loop
 unfolding table
@@ -49,7 +49,7 @@ loop-again c =
 returns-2 : tie.Need-returns-2 Inv-loop μ-loop
 unfolding table rowIn
 returns-2 c =
-    let e : c .before .loop .i ≡ 20 = omega arith in
+    let e : c .before .loop .i ≡ 21 = omega arith in
     ap (λ (i : ℕ). listed (rowIn (drop i table) (c .before .before .args .id))) (sym e) ∙ ap listed (c .before .loop .inv .1)
 
 pub find-kind-spec : {M : Type 1} → statement M

@@ -1,0 +1,2 @@
+pub mod ChannelCount
+pub mod RoundTrips
