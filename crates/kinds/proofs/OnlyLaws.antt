@@ -5,12 +5,12 @@ use mathlib.Core.Option.{some}
 use mathlib.Core.Path.{_≡_, refl, sym, ap, _∙_}
 use Prim.Native.Nat.{ℕ}
 use native.Mathlib.Omega.{arith}
-use borrow.Author.Tests.{eqb-true}
+use borrow.Author.Tests.{eqb-true, eq-eqb}
 use lib.Dec.{eqb}
 use lib.ListN.{length}
 use Rattle.ranges.specs.Ranges.{free, in43, in46, inEB}
 use Rattle.octets.specs.Bytes.{byte}
-use Rattle.kinds.specs.Kinds.{only, table, rowIn, allows, chosen49, lengthOk, judged, content, oneLength, lengthOf}
+use Rattle.kinds.specs.Kinds.{only, table, rowIn, allows, chosen49, lengthOk, inRange, judged, content, oneLength, lengthOf}
 
 module _ (id n : ℕ) (f : List ℕ → Bool) (row : rowIn table id ≡ some (only id n f)) (plain : eqb id 0x49 ≡ false) where
   -- what the row answers, by whether the length is the row's
@@ -30,6 +30,10 @@ module _ (id n : ℕ) (f : List ℕ → Bool) (row : rowIn table id ≡ some (on
       go true true e = rw e
       go true false e = rw e
       go false y e = refl
+
+  -- data of the length are judged by the ranges alone
+  pub ranged : (d : List ℕ) → length d ≡ n → inRange (rowIn table id) d ≡ eqb (content id d) 0
+  ranged d e = ap (λ o. inRange o d) row ∙ ap (λ (t : Bool). t && f d) (sym (eq-eqb (length d) n e)) ∙ tested d
 
   pub long : (d : List ℕ) → content id d ≡ 0 → length d ≡ n
   long d e = go (eqb (length d) n) refl (sym (one d) ∙ e)
@@ -76,14 +80,14 @@ pub length-EB : lengthOf 0xEB ≡ 26
 length-EB = ap oneLength row-EB
 
 -- data of the length are judged by the ranges alone
-pub test-43 : (d : List ℕ) → eqb (length d) 6 && in43 d ≡ eqb (content 0x43 d) 0
-test-43 d = tested 0x43 6 in43 row-43 refl d
+pub ranged-43 : (d : List ℕ) → length d ≡ 6 → inRange (rowIn table 0x43) d ≡ eqb (content 0x43 d) 0
+ranged-43 d e = ranged 0x43 6 in43 row-43 refl d e
 
-pub test-46 : (d : List ℕ) → eqb (length d) 10 && in46 d ≡ eqb (content 0x46 d) 0
-test-46 d = tested 0x46 10 in46 row-46 refl d
+pub ranged-46 : (d : List ℕ) → length d ≡ 10 → inRange (rowIn table 0x46) d ≡ eqb (content 0x46 d) 0
+ranged-46 d e = ranged 0x46 10 in46 row-46 refl d e
 
-pub test-EB : (d : List ℕ) → eqb (length d) 26 && inEB d ≡ eqb (content 0xEB d) 0
-test-EB d = tested 0xEB 26 inEB row-EB refl d
+pub ranged-EB : (d : List ℕ) → length d ≡ 26 → inRange (rowIn table 0xEB) d ≡ eqb (content 0xEB d) 0
+ranged-EB d e = ranged 0xEB 26 inEB row-EB refl d e
 
 pub test-4A : (d : List ℕ) → eqb (length d) 33 && true ≡ eqb (content 0x4A d) 0
 test-4A d = tested 0x4A 33 free row-4A refl d

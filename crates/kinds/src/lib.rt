@@ -84,8 +84,8 @@ fn length_ok(k: Kind, body: &[u8]) -> bool
     allowed
 }
 
-// Question 12: whether all fields are in range.
-fn in_range(id: u8, body: &[u8]) -> bool
+// Question 12: whether all fields are in range. A kind that is not listed has no ranges.
+pub fn in_range(id: u8, body: &[u8]) -> bool
     ensures { λ r. ⌜ r ≡ inRange (rowIn table id) (now (body .entry)) ⌝ }
 {
     match id {

@@ -32,7 +32,7 @@ fn fits_43(l: Latest) -> bool
 {
     if l.has43 {
         let d = l.d43;
-        return ranges::in_43(&d);
+        return kinds::in_range(0x43, &d);
     }
     true
 }
@@ -42,7 +42,7 @@ fn fits_46(l: Latest) -> bool
 {
     if l.has46 {
         let d = l.d46;
-        return ranges::in_46(&d);
+        return kinds::in_range(0x46, &d);
     }
     true
 }
@@ -52,7 +52,7 @@ fn fits_eb(l: Latest) -> bool
 {
     if l.haseb {
         let d = l.deb;
-        return ranges::in_eb(&d);
+        return kinds::in_range(0xEB, &d);
     }
     true
 }

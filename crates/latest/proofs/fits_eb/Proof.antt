@@ -1,13 +1,10 @@
 -- `latest::fits_eb` meets its contract: by whether there is one; the array has the kind's length.
-use mathlib.Core.Bool.{Bool, _&&_}
-use mathlib.Core.Path.{_≡_, sym, ap, _∙_, subst⁻¹}
+use mathlib.Core.Path.{_≡_, _∙_, subst⁻¹}
 use borrow.Author.Needs.{needs}
-use borrow.Author.Tests.{eq-eqb}
 use lib.ListN.{length}
 use Rattle.kinds.specs.Kinds.{content}
-use Rattle.kinds.proofs.OnlyLaws.{test-EB}
+use Rattle.kinds.proofs.OnlyLaws.{ranged-EB}
 use Rattle.line.specs.Record.{Fit}
-use Rattle.ranges.specs.Ranges.{inEB}
 use Rattle.latest.specs.Latest.{perhaps}
 use Rattle.octets.specs.Deciding.{Decides}
 use Rattle.latest.proofs.Deciding.{decides-zero}
@@ -17,22 +14,22 @@ use Rattle.latest.proofs.fits_eb.Tie as tie
 whole : (c : tie.Start) → length (c .args .l .deb) ≡ 26
 whole c = search needs
 
-slice-aggregate-in-eb : tie.Need-slice-aggregate-in-eb
-slice-aggregate-in-eb c = search needs
+slice-aggregate-in-range : tie.Need-slice-aggregate-in-range
+slice-aggregate-in-range c = search needs
 
-in-eb-requires : tie.Need-in-eb-requires
-in-eb-requires c κs = tt
+in-range-requires : tie.Need-in-range-requires
+in-range-requires c κs = tt
 
 returns : tie.Need-returns
 returns c =
     let s = c .before .before .before .before in
     let d = s .args .l .deb in
-    subst⁻¹ (λ t. Decides (Fit 0xEB (perhaps t d)) (c .in-eb .result)) (c .before .before .before .if1 .taken)
-    (decides-zero (content 0xEB d) (c .in-eb .result)
-    (c .in-eb .ensures ∙ ap (λ (t : Bool). t && inEB d) (sym (eq-eqb (length d) 26 (whole s))) ∙ test-EB d))
+    subst⁻¹ (λ t. Decides (Fit 0xEB (perhaps t d)) (c .in-range .result)) (c .before .before .before .if1 .taken)
+    (decides-zero (content 0xEB d) (c .in-range .result)
+    (c .in-range .ensures ∙ ranged-EB d (whole s)))
 
 returns-2 : tie.Need-returns-2
 returns-2 c = rw (c .if1 .left) tt
 
 pub fits-eb-spec : {M : Type 1} → statement M
-fits-eb-spec = tie.close (tie.spec slice-aggregate-in-eb in-eb-requires returns returns-2)
+fits-eb-spec = tie.close (tie.spec slice-aggregate-in-range in-range-requires returns returns-2)
