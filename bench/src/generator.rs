@@ -1,7 +1,7 @@
 //! Made inputs: pseudo-random numbers, messages of every kind, frames, damage and noise.
 //! The same seed gives the same inputs on every machine.
 
-use crate::reference::{frame_checksum, DLE, ETX, KINDS, SUM};
+use crate::reference::{days_in, frame_checksum, DLE, ETX, KINDS, SUM};
 
 /// Bytes that stand at the end of some range or have a meaning on the line.
 const NOTABLE: [u8; 32] = [
@@ -183,9 +183,12 @@ impl Random {
             }
             0x46 => {
                 self.field32(0, 604_799, &mut body);
-                self.field8(1, 31, &mut body);
-                self.field8(1, 12, &mut body);
-                self.field16(2000, 65_535, &mut body);
+                let mut month = Vec::new();
+                self.field8(1, 12, &mut month);
+                self.field16(2000, 65_535, &mut month);
+                let last = days_in(month[0], u16::from_le_bytes([month[1], month[2]]));
+                self.field8(1, last.into(), &mut body);
+                body.extend(month);
                 self.zone(&mut body);
             }
             0x47 => self.in_use(&mut body),

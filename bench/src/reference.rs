@@ -122,8 +122,7 @@ pub fn judge(id: u8, data: &[u8]) -> Result<(), Refusal> {
             let second = u32::from_le_bytes([data[0], data[1], data[2], data[3]]);
             let year = u16::from_le_bytes([data[6], data[7]]);
             second <= 604_799
-                && (1..=31).contains(&data[4])
-                && (1..=12).contains(&data[5])
+                && (1..=days_in(data[5], year)).contains(&data[4])
                 && year > 1999
                 && zone(data[8], data[9])
         }
@@ -150,6 +149,19 @@ fn satellite(system: u8, number: u8) -> Option<u8> {
         (1, 1..=32) => Some(number - 1),
         (2, 1..=24) => Some(31 + number),
         _ => None,
+    }
+}
+
+/// The days of a month by the Gregorian calendar, 0 where there is no such month.
+pub fn days_in(month: u8, year: u16) -> u8 {
+    let century = year.is_multiple_of(100);
+    let leap = year.is_multiple_of(if century { 400 } else { 4 });
+    match month {
+        2 => 28 + u8::from(leap),
+        // 31 and 30 in turn, which begins anew in August.
+        1..=7 => 30 + month % 2,
+        8..=12 => 31 - month % 2,
+        _ => 0,
     }
 }
 

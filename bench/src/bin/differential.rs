@@ -213,9 +213,29 @@ impl Comparison {
             body[..4].copy_from_slice(&u32::to_le_bytes(second));
             self.judge(0x46, &body)?;
         }
+        self.judge_dates()?;
         for _ in 0..500_000 {
             let (id, body) = self.message();
             self.judge(id, &body)?;
+        }
+        Ok(())
+    }
+
+    /// 46h: the end of every month of every year, and every day and month of some years.
+    fn judge_dates(&mut self) -> Same {
+        let mut body = [0; 10];
+        for year in 0..=u16::MAX {
+            body[6..8].copy_from_slice(&year.to_le_bytes());
+            for month in 0..=13 {
+                for day in 28..=32 {
+                    body[4..6].copy_from_slice(&[day, month]);
+                    self.judge(0x46, &body)?;
+                }
+            }
+        }
+        for year in [2000u16, 2001, 2004, 2100, 2400, 65_535] {
+            body[6..8].copy_from_slice(&year.to_le_bytes());
+            self.judge_pairs(0x46, &mut body, 4..5)?;
         }
         Ok(())
     }

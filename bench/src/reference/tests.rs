@@ -299,6 +299,30 @@ fn modes() {
 }
 
 #[test]
+fn dates() {
+    const LENGTHS: [u8; 12] = [31, 28, 31, 30, 31, 30, 31, 31, 30, 31, 30, 31];
+    let dated = |day: u8, month: u8, year: u16| {
+        let [low, high] = year.to_le_bytes();
+        judged(0x46, &[0, 0, 0, 0, day, month, low, high, 0, 0])
+    };
+    for (year, leap) in [
+        (2000, true),
+        (2001, false),
+        (2004, true),
+        (2100, false),
+        (2400, true),
+        (65_535, false),
+    ] {
+        for (month, length) in (1..).zip(LENGTHS) {
+            let last = if leap && month == 2 { 29 } else { length };
+            let answers = [0, 1, last, last + 1].map(|day| dated(day, month, year));
+            assert_eq!(answers, [12, 0, 0, 12], "month {month} of {year}");
+        }
+        assert_eq!([dated(1, 0, year), dated(1, 13, year)], [12, 12]);
+    }
+}
+
+#[test]
 fn impossible_records() {
     type Spoil = fn(&mut Reader);
     // After DLE, an identifier, one doubled byte and DLE SUM: place C0, hand 6.
@@ -306,7 +330,7 @@ fn impossible_records() {
     open.feed(&[0x10, 0x21, 0x10, 0x10, 0x10, 0xFF]);
     assert_eq!((open.line.place, open.line.hand), (Place::C0, 6));
     assert_eq!(open.ask(), Ok(()));
-    let spoils: [Spoil; 9] = [
+    let spoils: [Spoil; 10] = [
         |r| r.mode = 0,
         |r| r.line.id = ETX,
         |r| r.line.len = CAPACITY + 1,
@@ -315,6 +339,7 @@ fn impossible_records() {
         |r| r.line.hand = 5,
         |r| r.fed += 1,
         |r| r.standing.time_46 = Some([0; 10]),
+        |r| r.standing.time_46 = Some([0, 0, 0, 0, 31, 4, 0xD0, 0x07, 0, 0]),
         |r| (r.accepted, r.refused) = (u32::MAX, 1),
     ];
     for spoil in spoils {

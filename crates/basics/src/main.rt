@@ -18,6 +18,7 @@
 // - 0C parse, line_end: of the bytes as text, with room b, and from place a on
 // - 0D number, of every refusal
 // - 0E int8_byte, int16_word, of numbers at the ends and around 0
+// - 0F is_leap, days_in, is_date: the bytes are day, month and year
 //
 // A call's line has its number and its answers, in this order; where it fills a buffer, that is last, up to four bytes past the room.
 use latest::Latest;
@@ -270,6 +271,14 @@ fn run_bits() {
     half(numbers::int16_word(32767));
 }
 
+fn run_date(d: &[u8]) {
+    let month = octets::byte_at(d, 1);
+    let year = numbers::u16_at(d, 2);
+    flag(calendar::is_leap(year));
+    octet(calendar::days_in(month, year));
+    flag(calendar::is_date(octets::byte_at(d, 0), month, year));
+}
+
 fn run_filling(call: u8, a: u64, b: u64, d: &[u8], buf: &mut [u8]) {
     match call {
         3 => run_put(a as usize, b as usize, d, buf),
@@ -291,6 +300,7 @@ fn run(call: u8, a: u64, b: u64, d: &[u8]) {
         9 => run_store(d),
         13 => run_refusals(),
         14 => run_bits(),
+        15 => run_date(d),
         _ => run_filling(call, a, b, d, &mut buf),
     }
 }

@@ -11,8 +11,9 @@
 // A case with a record begins with the refusal of a fresh reader of its mode. Each call has a line: the event (0 nothing yet, 255 a
 // message, else the refusal), identifier, bytes closed, data bytes, bytes taken (or single steps), then the record's place, fed,
 // accepted, refused, outside and pending, then a message's data. In 03 and 05 a call that is refused by 1, 2 or 3 has a second line with
-// the record's mode, identifier, c1, c2 and length: they are as they were. The writer's line has its refusal, the length, and the buffer
-// up to four bytes past the room. Identifiers, c1, c2 and data are in hexadecimal.
+// the record's mode, identifier, c1, c2, length and standing readings: they are as they were. The writer's line has its refusal, the
+// length, and the buffer up to four bytes past the room. Identifiers, c1, c2 and data are in hexadecimal.
+use latest::Latest;
 use record::Answer;
 use record::Event;
 use record::Head;
@@ -61,8 +62,28 @@ fn event(e: Event) -> u8 {
     }
 }
 
+fn held(has: bool, d: &[u8]) {
+    if has {
+        octets(d, d.len());
+    }
+}
+
+// The data of each standing reading.
+fn standing(l: Latest) {
+    let d43 = l.d43;
+    let d46 = l.d46;
+    let d4a = l.d4a;
+    let d4b = l.d4b;
+    let deb = l.deb;
+    held(l.has43, &d43);
+    held(l.has46, &d46);
+    held(l.has4a, &d4a);
+    held(l.has4b, &d4b);
+    held(l.haseb, &deb);
+}
+
 // What a refusal leaves, if it is by a number up to this one.
-fn left(e: u8, most: u8, h: Head) {
+fn left(e: u8, most: u8, h: Head, l: Latest) {
     if e == 0 {
         return;
     }
@@ -74,11 +95,12 @@ fn left(e: u8, most: u8, h: Head) {
     hex(h.c1);
     hex(h.c2);
     size(h.len);
+    standing(l);
     end();
 }
 
 // The answer of a call, and the record's numbers after it.
-fn show(a: Answer, h: Head, taken: usize, most: u8) {
+fn show(a: Answer, h: Head, l: Latest, taken: usize, most: u8) {
     let d = a.bytes;
     let e = a.event;
     let n = event(e);
@@ -95,7 +117,7 @@ fn show(a: Answer, h: Head, taken: usize, most: u8) {
     count(h.pending);
     octets(&d, a.len);
     end();
-    left(n, most, h);
+    left(n, most, h, l);
 }
 
 // Feeds a slice from where each call stopped until a call takes nothing; only once where what is left is shown.
@@ -105,7 +127,7 @@ fn run(r0: Reader, s: &[u8], most: u8) {
     while done <= s.len() {
         let f = calls::feed(r, &s[done..]);
         let n = f.taken;
-        show(f.answer, f.reader.head, n, most);
+        show(f.answer, f.reader.head, f.reader.latest, n, most);
         if n == 0 {
             return;
         }
@@ -131,7 +153,7 @@ fn steps(r0: Reader, s: &[u8]) {
         let e = a.event;
         i += 1;
         if (event(e) != 0) | (s.len() <= i) {
-            show(a, t.reader.head, i, 3);
+            show(a, t.reader.head, t.reader.latest, i, 3);
             return;
         }
         r = t.reader;
@@ -182,7 +204,7 @@ fn in_place(r: Reader, s: &[u8]) {
         bytes: d,
         closed: x.closed,
     };
-    show(a, x.head, x.taken, 3);
+    show(a, x.head, x.latest, x.taken, 3);
 }
 
 fn run_record(kind: u8, r: Reader, s: &[u8]) {
@@ -255,7 +277,7 @@ fn line(s: &[u8]) {
 }
 
 fn main() {
-    let mut buf = [0u8; 131072];
+    let mut buf = [0u8; 262144];
     let n = io::read_full(0, &mut buf);
     let s = &buf[..n];
     let mut at: usize = 0;

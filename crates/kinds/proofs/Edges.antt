@@ -5,6 +5,7 @@ use Prim.Native.Nat.{ℕ, zero, suc}
 use lib.ListN.{length, replicate}
 use Rattle.numbers.specs.Number.{numberOf, numberAt}
 use Rattle.numbers.specs.Signed.{signed}
+use Rattle.calendar.specs.Calendar.{leap, daysIn, dateExists}
 use Rattle.ranges.specs.Ranges.{all, count}
 use Rattle.kinds.specs.Kinds.{table, rowIn, allows, chosen49, lengthOk, content}
 
@@ -25,6 +26,10 @@ triples system u (suc n) = system ∷ suc n ∷ u ∷ triples system u n
 pub times : ℕ → List ℕ → List ℕ
 times zero d = []
 times (suc n) d = d ++ times n d
+
+-- 46h on a day and month, the year by its two bytes
+pub on : ℕ → ℕ → ℕ → ℕ → List ℕ
+on d m low high = 0 ∷ 0 ∷ 0 ∷ 0 ∷ d ∷ m ∷ low ∷ high ∷ 0 ∷ 0 ∷ []
 
 pub kinds : List Edges
 kinds =
@@ -47,8 +52,8 @@ kinds =
     ∷ edges 0x43 ((2 ∷ 63 ∷ replicate 4 0) ∷ (2 ∷ 127 ∷ replicate 4 0) ∷ (2 ∷ 255 ∷ replicate 4 0) ∷ [])
     ((2 ∷ 128 ∷ replicate 4 0) ∷ (2 ∷ 191 ∷ replicate 4 0) ∷ (1 ∷ replicate 5 0) ∷ (3 ∷ replicate 5 0) ∷ (2 ∷ 0 ∷ 1 ∷ replicate 3 0) ∷ (2 ∷ 0 ∷ 0 ∷ 1 ∷ 0 ∷ 0 ∷ []) ∷ (2 ∷ (replicate 3 0 ++ (1 ∷ 0 ∷ []))) ∷ (2 ∷ (replicate 4 0 ++ (1 ∷ []))) ∷ [])
     ((2 ∷ replicate 4 0) ∷ (2 ∷ replicate 6 0) ∷ [])
-    ∷ edges 0x46 ((0 ∷ 0 ∷ 0 ∷ 0 ∷ 1 ∷ 1 ∷ 208 ∷ 7 ∷ 13 ∷ 59 ∷ []) ∷ (127 ∷ 58 ∷ 9 ∷ 0 ∷ 31 ∷ 12 ∷ 255 ∷ 255 ∷ 243 ∷ 197 ∷ []) ∷ [])
-    ((128 ∷ 58 ∷ 9 ∷ 0 ∷ 1 ∷ 1 ∷ 208 ∷ 7 ∷ 0 ∷ 0 ∷ []) ∷ (0 ∷ 0 ∷ 0 ∷ 0 ∷ 0 ∷ 1 ∷ 208 ∷ 7 ∷ 0 ∷ 0 ∷ []) ∷ (0 ∷ 0 ∷ 0 ∷ 0 ∷ 32 ∷ 1 ∷ 208 ∷ 7 ∷ 0 ∷ 0 ∷ []) ∷ (0 ∷ 0 ∷ 0 ∷ 0 ∷ 1 ∷ 0 ∷ 208 ∷ 7 ∷ 0 ∷ 0 ∷ []) ∷ (0 ∷ 0 ∷ 0 ∷ 0 ∷ 1 ∷ 13 ∷ 208 ∷ 7 ∷ 0 ∷ 0 ∷ []) ∷ (0 ∷ 0 ∷ 0 ∷ 0 ∷ 1 ∷ 1 ∷ 207 ∷ 7 ∷ 0 ∷ 0 ∷ []) ∷ (0 ∷ 0 ∷ 0 ∷ 0 ∷ 1 ∷ 1 ∷ 208 ∷ 7 ∷ 14 ∷ 0 ∷ []) ∷ (0 ∷ 0 ∷ 0 ∷ 0 ∷ 1 ∷ 1 ∷ 208 ∷ 7 ∷ 0 ∷ 196 ∷ []) ∷ [])
+    ∷ edges 0x46 ((0 ∷ 0 ∷ 0 ∷ 0 ∷ 1 ∷ 1 ∷ 208 ∷ 7 ∷ 13 ∷ 59 ∷ []) ∷ (127 ∷ 58 ∷ 9 ∷ 0 ∷ 31 ∷ 12 ∷ 255 ∷ 255 ∷ 243 ∷ 197 ∷ []) ∷ on 29 2 208 7 ∷ on 28 2 52 8 ∷ on 30 4 208 7 ∷ [])
+    ((128 ∷ 58 ∷ 9 ∷ 0 ∷ 1 ∷ 1 ∷ 208 ∷ 7 ∷ 0 ∷ 0 ∷ []) ∷ (0 ∷ 0 ∷ 0 ∷ 0 ∷ 0 ∷ 1 ∷ 208 ∷ 7 ∷ 0 ∷ 0 ∷ []) ∷ (0 ∷ 0 ∷ 0 ∷ 0 ∷ 32 ∷ 1 ∷ 208 ∷ 7 ∷ 0 ∷ 0 ∷ []) ∷ (0 ∷ 0 ∷ 0 ∷ 0 ∷ 1 ∷ 0 ∷ 208 ∷ 7 ∷ 0 ∷ 0 ∷ []) ∷ (0 ∷ 0 ∷ 0 ∷ 0 ∷ 1 ∷ 13 ∷ 208 ∷ 7 ∷ 0 ∷ 0 ∷ []) ∷ (0 ∷ 0 ∷ 0 ∷ 0 ∷ 1 ∷ 1 ∷ 207 ∷ 7 ∷ 0 ∷ 0 ∷ []) ∷ (0 ∷ 0 ∷ 0 ∷ 0 ∷ 1 ∷ 1 ∷ 208 ∷ 7 ∷ 14 ∷ 0 ∷ []) ∷ (0 ∷ 0 ∷ 0 ∷ 0 ∷ 1 ∷ 1 ∷ 208 ∷ 7 ∷ 0 ∷ 196 ∷ []) ∷ on 30 2 208 7 ∷ on 29 2 52 8 ∷ on 31 4 208 7 ∷ [])
     ((0 ∷ 0 ∷ 0 ∷ 0 ∷ 1 ∷ 1 ∷ 208 ∷ 7 ∷ 0 ∷ []) ∷ (0 ∷ 0 ∷ 0 ∷ 0 ∷ 1 ∷ 1 ∷ 208 ∷ 7 ∷ 0 ∷ 0 ∷ 0 ∷ []) ∷ [])
     ∷ edges 0x47 ((triples 1 1 32 ++ triples 2 2 24) ∷ (triples 2 1 24 ++ triples 1 2 32) ∷ [])
     ((triples 1 0 32 ++ triples 2 2 24) ∷ (triples 1 3 32 ++ triples 2 2 24) ∷ (triples 1 1 31 ++ triples 2 2 25)
@@ -77,7 +82,7 @@ pub expected : Edges → List ℕ
 expected e = replicate (length (e .good)) 0 ++ (replicate (length (e .outside)) 12 ++ replicate (length (e .length)) 11)
 
 pub edges-hold : map answers kinds ≡ map expected kinds
-unfolding edges triples times kinds answers expected numberOf numberAt signed all count table rowIn allows chosen49 lengthOk content
+unfolding edges triples times on kinds leap daysIn dateExists answers expected numberOf numberAt signed all count table rowIn allows chosen49 lengthOk content
 edges-hold = refl
 
 -- no other identifier is listed: the service codes, and neighbours of those that are

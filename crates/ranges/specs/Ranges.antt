@@ -8,6 +8,7 @@ use lib.ListN.{length, drop}
 use Rattle.octets.specs.Bytes.{byte}
 use Rattle.numbers.specs.Number.{numberAt}
 use Rattle.numbers.specs.Signed.{int8}
+use Rattle.calendar.specs.Calendar.{dateExists}
 use Rattle.satellites.specs.Satellites.{between, within, satellite, visible, carrier}
 
 abbrev pub int8At : List ℕ → ℕ → ℤ
@@ -46,10 +47,10 @@ antenna b = b / 64 % 4
 abbrev pub in43 : List ℕ → Bool
 in43 d = eqb (byte d 0) 2 && not (eqb (antenna (byte d 1)) 2) && all 4 (λ i. eqb (byte d (2 + i)) 0)
 
--- second of the week 0–604,799, day 1–31, month 1–12, year above 1999, zone
+-- second of the week 0–604,799; day, month and year of a date that exists (document 02, Point 3), year above 1999; zone
 abbrev pub in46 : List ℕ → Bool
 in46 d =
-    leb (numberAt d 0 4) 604799 && between 1 31 (byte d 4) && between 1 12 (byte d 5) && ltb 1999 (numberAt d 6 2)
+    leb (numberAt d 0 4) 604799 && dateExists (byte d 4) (byte d 5) (numberAt d 6 2) && ltb 1999 (numberAt d 6 2)
     && zone (int8At d 8) (int8At d 9)
 
 -- 56 triples system, number, use (1 or 2); each satellite of 20h once

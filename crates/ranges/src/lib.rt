@@ -67,8 +67,7 @@ pub fn in_46(body: &[u8]) -> bool
     let month = octets::byte_at(body, 5);
     let year = numbers::u16_at(body, 6);
     (second <= 604799)
-        & ((1 <= day) & (day <= 31))
-        & ((1 <= month) & (month <= 12))
+        & calendar::is_date(day, month, year)
         & (1999 < year)
         & zone(int8_at(body, 8), int8_at(body, 9))
 }

@@ -1,5 +1,5 @@
 -- `in_46` meets its contract: each field is what its reader ensures.
-use borrow.Author.Needs.{sfits-of}
+use borrow.Author.Needs.{needs, sfits-of}
 use mir.Facts.{toZ-ofZ}
 use Rattle.ranges.proofs.in_46.Statement.{statement}
 use Rattle.ranges.proofs.in_46.Tie as tie
@@ -16,6 +16,9 @@ byte-at-requires-2 c κs = tt
 u16-at-requires : tie.Need-u16-at-requires
 u16-at-requires c κs = tt
 
+is-date-requires : tie.Need-is-date-requires
+is-date-requires c κs = search needs
+
 int8-at-requires : tie.Need-int8-at-requires
 int8-at-requires c κs = tt
 
@@ -29,9 +32,11 @@ returns : tie.Need-returns
 returns c =
     let m = c .before in
     let h = m .before in
-    let y = h .before in
+    let e = h .before in
+    let y = e .before in
     let d = y .before .before in
     rw (
+      e .is-date .ensures,
       d .before .u32-at .ensures,
       d .byte-at .ensures,
       y .before .byte-at2 .ensures,
@@ -51,6 +56,7 @@ in-46-spec =
     byte-at-requires
     byte-at-requires-2
     u16-at-requires
+    is-date-requires
     int8-at-requires
     int8-at-requires-2
     zone-requires
