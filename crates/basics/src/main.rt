@@ -1,6 +1,6 @@
-// Prints the checksum's published vectors: the register over "123456789", then, a line each, over every single byte. The stored
-// output of these is the table printed in Appendix A.3 of the protocol document, but for the entry of 5Ah, which is misprinted there: it
-// is the older edition's.
+// Prints the checksum's published vectors: the register over "123456789", then, a line for each byte, the register over it alone and
+// its entry of the table. The stored output of these is the table printed in Appendix A.3 of the protocol document, but for the entry of
+// 5Ah, which is misprinted there: it is the older edition's.
 //
 // Then it reads calls as hexadecimal text, a line each, and prints what the calls under the others answer. A line that starts with # is
 // printed as it is. Any other is call, two numbers a and b of eight bytes, low byte first, then bytes:
@@ -330,16 +330,18 @@ fn show_register(register: u16) {
     io::write_all(1, b"\n");
 }
 
-fn entry(b: u8) {
+fn show_entry(b: u8) {
     let one = [b];
-    show_register(checksum::after_slice(0, &one));
+    io::print_hex(1, checksum::after_slice(0, &one) as u64, 4);
+    io::write_all(1, b" ");
+    show_register(checksum::entry(b));
 }
 
 fn show_published() {
     show_register(checksum::after_slice(0, b"123456789"));
     let mut i: usize = 0;
     while i < 256 {
-        entry(i as u8);
+        show_entry(i as u8);
         i += 1;
     }
 }

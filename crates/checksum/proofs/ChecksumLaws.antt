@@ -16,6 +16,11 @@ unfolding afterBytes
 after-append r [] t = refl
 after-append r (b ∷ s) t = after-append (afterByte r b) s t
 
+-- the identifier comes in at the top of a register that is 0
+pub begun : (id : ℕ) (d : List ℕ) → afterBytes (shiftedBy 8 (bitXor (shiftedBy 8 0) (id * 256))) (stuffed d) ≡ checksum id d
+unfolding shifted shiftedBy afterByte afterBytes checksum
+begun id d = refl
+
 -- a register of 16 bits stays one
 pub shifted-lt : (r : ℕ) → r < 65536 → shifted r < 65536
 unfolding shifted

@@ -1,4 +1,4 @@
 pub mod Vectors
 pub mod ChecksumLaws
 pub mod Linear
-pub mod Fours
+pub mod EntryLaws

@@ -22,11 +22,11 @@ show-register-requires c κs = tt
 loop-holds : tie.Need-loop-holds Inv-loop μ-loop
 loop-holds c = search needs
 
-cast-entry : tie.Need-cast-entry Inv-loop μ-loop
-cast-entry c = search needs
+cast-show-entry : tie.Need-cast-show-entry Inv-loop μ-loop
+cast-show-entry c = search needs
 
-entry-requires : tie.Need-entry-requires Inv-loop μ-loop
-entry-requires c κs = tt
+show-entry-requires : tie.Need-show-entry-requires Inv-loop μ-loop
+show-entry-requires c κs = tt
 
 add-i : tie.Need-add-i Inv-loop μ-loop
 add-i c = search needs
@@ -50,8 +50,8 @@ show-published-spec =
     after-slice-requires
     show-register-requires
     loop-holds
-    cast-entry
-    entry-requires
+    cast-show-entry
+    show-entry-requires
     add-i
     loop-less
     loop-again
