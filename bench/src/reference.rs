@@ -256,7 +256,7 @@ pub struct Answer<'a> {
     pub id: u8,
     /// Lent from the reader, so that giving a message copies nothing.
     pub data: &'a [u8],
-    pub closed: u32,
+    pub closed: u64,
 }
 
 impl Answer<'_> {
@@ -297,8 +297,8 @@ struct Line {
     /// second pass over the data.
     sum: u16,
     len: usize,
-    hand: u32,
-    outside: u32,
+    hand: u64,
+    outside: u64,
 }
 
 impl Line {
@@ -397,9 +397,9 @@ pub struct Reader {
     mode: u8,
     line: Line,
     data: [u8; CAPACITY],
-    accepted: u32,
-    refused: u32,
-    fed: u32,
+    accepted: u64,
+    refused: u64,
+    fed: u64,
     standing: Standing,
 }
 
@@ -442,7 +442,7 @@ impl Reader {
         if let Err(refusal) = self.ask() {
             return (Answer::untaken(refusal), 0);
         }
-        let room = (u32::MAX - self.fed) as usize;
+        let room = usize::try_from(u64::MAX - self.fed).unwrap_or(usize::MAX);
         if room == 0 && !bytes.is_empty() {
             return (Answer::untaken(Refusal::Full), 0);
         }
@@ -462,12 +462,12 @@ impl Reader {
         for (i, &b) in bytes.iter().enumerate() {
             if let Some(close) = line.take::<SUMMED>(&mut self.data, b) {
                 self.line = line;
-                self.fed += i as u32 + 1;
+                self.fed += i as u64 + 1;
                 return (self.close(close), i + 1);
             }
         }
         self.line = line;
-        self.fed += bytes.len() as u32;
+        self.fed += bytes.len() as u64;
         (Answer::NOTHING, bytes.len())
     }
 
@@ -539,7 +539,7 @@ impl Reader {
         };
         let counts = [self.accepted, self.refused, line.outside, line.hand];
         frame
-            && u64::from(self.fed) == counts.into_iter().map(u64::from).sum::<u64>()
+            && counts.into_iter().try_fold(0, u64::checked_add) == Some(self.fed)
             && self.standing.acceptable()
     }
 

@@ -15,7 +15,7 @@ fn judged(id: u8, data: &[u8]) -> u8 {
 }
 
 /// An answer without its lifetime.
-fn told(answer: Answer) -> (Event, u8, Vec<u8>, u32) {
+fn told(answer: Answer) -> (Event, u8, Vec<u8>, u64) {
     (answer.event, answer.id, answer.data.to_vec(), answer.closed)
 }
 
@@ -330,7 +330,7 @@ fn impossible_records() {
     open.feed(&[0x10, 0x21, 0x10, 0x10, 0x10, 0xFF]);
     assert_eq!((open.line.place, open.line.hand), (Place::C0, 6));
     assert_eq!(open.ask(), Ok(()));
-    let spoils: [Spoil; 10] = [
+    let spoils: [Spoil; 12] = [
         |r| r.mode = 0,
         |r| r.line.id = ETX,
         |r| r.line.len = CAPACITY + 1,
@@ -340,7 +340,9 @@ fn impossible_records() {
         |r| r.fed += 1,
         |r| r.standing.time_46 = Some([0; 10]),
         |r| r.standing.time_46 = Some([0, 0, 0, 0, 31, 4, 0xD0, 0x07, 0, 0]),
-        |r| (r.accepted, r.refused) = (u32::MAX, 1),
+        |r| (r.accepted, r.refused) = (u64::MAX, 1),
+        |r| (r.accepted, r.refused) = (u64::MAX, u64::MAX),
+        |r| (r.accepted, r.fed) = (1 << 32, 6),
     ];
     for spoil in spoils {
         let mut reader = open.clone();
@@ -356,13 +358,26 @@ fn impossible_records() {
 }
 
 #[test]
+fn past_32_bits() {
+    let mut reader = Reader::fresh(0).unwrap();
+    reader.line.outside = u64::from(u32::MAX);
+    reader.fed = u64::from(u32::MAX);
+    let (answer, taken) = reader.feed(&[0x10, 0x26, 0x10, 0x03]);
+    assert_eq!(
+        (told(answer), taken),
+        ((Event::Message, 0x26, vec![], 4), 4)
+    );
+    assert_eq!(reader.fed, u64::from(u32::MAX) + 4);
+}
+
+#[test]
 fn full_counter() {
     let mut reader = Reader::fresh(0).unwrap();
-    reader.line.outside = u32::MAX - 2;
-    reader.fed = u32::MAX - 2;
+    reader.line.outside = u64::MAX - 2;
+    reader.fed = u64::MAX - 2;
     let (answer, taken) = reader.feed(&[0x10, 0x26, 0x10, 0x03]);
     assert_eq!((answer, taken), (Answer::NOTHING, 2));
-    assert_eq!((reader.fed, reader.line.hand), (u32::MAX, 2));
+    assert_eq!((reader.fed, reader.line.hand), (u64::MAX, 2));
     let (answer, taken) = reader.feed(&[0x10]);
     let untaken = (Event::Refusal(Refusal::Full), 0, vec![], 0);
     assert_eq!((told(answer), taken), (untaken, 0));
@@ -406,7 +421,7 @@ fn written_and_read() {
             let mut reader = Reader::fresh(mode).unwrap();
             let (answer, taken) = reader.feed(&out[..length]);
             assert_eq!(taken, length);
-            assert_eq!(told(answer), (Event::Message, id, data, length as u32));
+            assert_eq!(told(answer), (Event::Message, id, data, length as u64));
         }
     }
 }

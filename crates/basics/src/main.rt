@@ -13,7 +13,7 @@
 // - 07 message, after_slice: the bytes after the first two, with the first as identifier, and as register
 // - 08 encode of rows: identifier, width, how many widths, how many words are the first four bytes, a each word, b the room
 // - 09 store, acceptable: identifier and length are the first two bytes, the data those after them
-// - 0A question: the first byte is the mode, the next two numbers of four bytes are fed and outside; a is the length of the array, b
+// - 0A question: the first byte is the mode, the next two numbers of eight bytes are fed and outside; a is the length of the array, b
 //   how many bytes are offered
 // - 0C parse, line_end: of the bytes as text, with room b, and from place a on
 // - 0D number, of every refusal
@@ -212,10 +212,10 @@ fn head_of(d: &[u8]) -> Head {
         c1: 0,
         c2: 0,
         len: 0,
-        fed: numbers::u32_at(d, 1),
+        fed: numbers::u64_at(d, 1),
         accepted: 0,
         refused: 0,
-        outside: numbers::u32_at(d, 5),
+        outside: numbers::u64_at(d, 9),
         pending: 0,
     }
 }

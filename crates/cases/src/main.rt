@@ -4,20 +4,25 @@
 //   comes at the end
 // - 03, a record, a slice: the record takes single steps up to the first event, then the slice, then an empty slice
 // - 05, a record, a slice: the record is fed the slice by one call in place
+// - 06, a record with counts of 32 bits, a slice: the record is taken over, then fed the slice as in 02
 // - 04, mode, identifier, room in two bytes, data: the writer fills so many bytes of a buffer of 5A
 // A record is mode, place, identifier, c1, c2, then length in two bytes and the counts accepted, refused, outside, pending and fed in
-// four bytes each, low byte first, two bytes of data, then the identifier of a standing reading, how many bytes it has, and these.
+// eight bytes each (in 06 in four), low byte first, two bytes of data, then the identifier of a standing reading, how many bytes it
+// has, and these.
 //
 // A case with a record begins with the refusal of a fresh reader of its mode. Each call has a line: the event (0 nothing yet, 255 a
 // message, else the refusal), identifier, bytes closed, data bytes, bytes taken (or single steps), then the record's place, fed,
 // accepted, refused, outside and pending, then a message's data. In 03 and 05 a call that is refused by 1, 2 or 3 has a second line with
-// the record's mode, identifier, c1, c2, length and standing readings: they are as they were. The writer's line has its refusal, the
-// length, and the buffer up to four bytes past the room. Identifiers, c1, c2 and data are in hexadecimal.
+// the record's mode, identifier, c1, c2, length and standing readings: they are as they were. In 06 two lines come before the calls': the
+// refusal of taking over, the record's place and counts; and that second line. The writer's line has its refusal, the length, and the
+// buffer up to four bytes past the room. Identifiers, c1, c2 and data are in hexadecimal.
 use latest::Latest;
 use record::Answer;
 use record::Event;
 use record::Head;
 use record::Reader;
+use takeover::Head32;
+use takeover::Reader32;
 
 fn end() {
     io::write_all(1, b"\n");
@@ -82,6 +87,17 @@ fn standing(l: Latest) {
     held(l.haseb, &deb);
 }
 
+// The parts of a record that no other line has.
+fn parts(h: Head, l: Latest) {
+    octet(h.mode);
+    hex(h.id);
+    hex(h.c1);
+    hex(h.c2);
+    size(h.len);
+    standing(l);
+    end();
+}
+
 // What a refusal leaves, if it is by a number up to this one.
 fn left(e: u8, most: u8, h: Head, l: Latest) {
     if e == 0 {
@@ -90,13 +106,17 @@ fn left(e: u8, most: u8, h: Head, l: Latest) {
     if most < e {
         return;
     }
-    octet(h.mode);
-    hex(h.id);
-    hex(h.c1);
-    hex(h.c2);
-    size(h.len);
-    standing(l);
-    end();
+    parts(h, l);
+}
+
+// The place and the counts.
+fn counts(h: Head) {
+    octet(h.place);
+    count(h.fed);
+    count(h.accepted);
+    count(h.refused);
+    count(h.outside);
+    count(h.pending);
 }
 
 // The answer of a call, and the record's numbers after it.
@@ -109,12 +129,7 @@ fn show(a: Answer, h: Head, l: Latest, taken: usize, most: u8) {
     count(a.closed);
     size(a.len);
     size(taken);
-    octet(h.place);
-    count(h.fed);
-    count(h.accepted);
-    count(h.refused);
-    count(h.outside);
-    count(h.pending);
+    counts(h);
     octets(&d, a.len);
     end();
     left(n, most, h, l);
@@ -168,6 +183,22 @@ fn head_of(s: &[u8]) -> Head {
         c1: octets::byte_at(s, 4),
         c2: octets::byte_at(s, 5),
         len: numbers::u16_at(s, 6) as usize,
+        accepted: numbers::u64_at(s, 8),
+        refused: numbers::u64_at(s, 16),
+        outside: numbers::u64_at(s, 24),
+        pending: numbers::u64_at(s, 32),
+        fed: numbers::u64_at(s, 40),
+    }
+}
+
+fn head32_of(s: &[u8]) -> Head32 {
+    Head32 {
+        mode: octets::byte_at(s, 1),
+        place: octets::byte_at(s, 2),
+        id: octets::byte_at(s, 3),
+        c1: octets::byte_at(s, 4),
+        c2: octets::byte_at(s, 5),
+        len: numbers::u16_at(s, 6) as usize,
         accepted: numbers::u32_at(s, 8),
         refused: numbers::u32_at(s, 12),
         outside: numbers::u32_at(s, 16),
@@ -176,20 +207,21 @@ fn head_of(s: &[u8]) -> Head {
     }
 }
 
-// A record from its text; its standing reading is the first n bytes of the rest.
-fn record_of(s: &[u8], rest: &[u8], n: usize) -> Reader {
-    let f = Reader::fresh(octets::byte_at(s, 1));
+// The standing reading of a record: the first n bytes of the rest.
+fn latest_of(mode: u8, id: u8, rest: &[u8], n: usize) -> Latest {
+    let f = Reader::fresh(mode);
     octet(f.refusal);
-    let h = head_of(s);
-    let l = latest::store(f.reader.latest, octets::byte_at(s, 30), rest, n);
+    latest::store(f.reader.latest, id, rest, n)
+}
+
+// The data of a record: two bytes.
+fn data_of(s: &[u8], at: usize) -> [u8; Reader::CAPACITY] {
     let mut bytes = [0u8; Reader::CAPACITY];
-    bytes[0] = octets::byte_at(s, 28);
-    bytes[1] = octets::byte_at(s, 29);
-    Reader {
-        head: h,
-        latest: l,
-        bytes: bytes,
+    bytes[0] = octets::byte_at(s, at);
+    if at < s.len() {
+        bytes[1] = octets::byte_at(s, at + 1);
     }
+    bytes
 }
 
 // One call in place.
@@ -222,6 +254,26 @@ fn run_record(kind: u8, r: Reader, s: &[u8]) {
 }
 
 fn record(s: &[u8]) {
+    if s.len() < 52 {
+        return;
+    }
+    let n = octets::byte_at(s, 51) as usize;
+    let rest = &s[52..];
+    if rest.len() < n {
+        return;
+    }
+    let l = latest_of(s[1], s[50], rest, n);
+    let h = head_of(s);
+    let d = data_of(s, 48);
+    let r = Reader {
+        head: h,
+        latest: l,
+        bytes: d,
+    };
+    run_record(s[0], r, &rest[n..]);
+}
+
+fn record32(s: &[u8]) {
     if s.len() < 32 {
         return;
     }
@@ -230,7 +282,20 @@ fn record(s: &[u8]) {
     if rest.len() < n {
         return;
     }
-    run_record(s[0], record_of(s, rest, n), &rest[n..]);
+    let l = latest_of(s[1], s[30], rest, n);
+    let h = head32_of(s);
+    let d = data_of(s, 28);
+    let old = Reader32 {
+        head: h,
+        latest: l,
+        bytes: d,
+    };
+    let x = takeover::take_over(old);
+    octet(x.refusal);
+    counts(x.reader.head);
+    end();
+    parts(x.reader.head, x.reader.latest);
+    run(x.reader, &rest[n..], 0);
 }
 
 fn write_in(mode: u8, id: u8, room: usize, body: &[u8], buf: &mut [u8]) {
@@ -261,6 +326,7 @@ fn write(s: &[u8]) {
 fn case(s: &[u8]) {
     match octets::byte_at(s, 0) {
         4 => write(s),
+        6 => record32(s),
         _ => record(s),
     }
 }

@@ -52,9 +52,9 @@ questions-hold =
       second = record { step = λ b r a p. p .two (omega arith) (λ q. q .place); feed = λ b bs r a n p. p .two (omega arith) (λ q. q .place) };
       third =
           record {
-            step = λ b r a p. p .three (omega arith) (counted 4294967295 refl) tt (omega arith);
-            feed = λ b bs r a n p. p .three (omega arith) (counted 4294967295 refl) (omega arith) (omega arith);
+            step = λ b r a p. p .three (omega arith) (counted 18446744073709551615 refl) tt (omega arith);
+            feed = λ b bs r a n p. p .three (omega arith) (counted 18446744073709551615 refl) (omega arith) (omega arith);
           };
-      empty = λ r a n p. let w = p .rest (omega arith) (counted 4294967295 refl) (λ o. absurd (omega arith)) in (w .1, w .2);
-      last = λ r a n p. p .rest (omega arith) (counted 4294967294 refl) (λ o. lit< tt);
+      empty = λ r a n p. let w = p .rest (omega arith) (counted 18446744073709551615 refl) (λ o. absurd (omega arith)) in (w .1, w .2);
+      last = λ r a n p. p .rest (omega arith) (counted 18446744073709551614 refl) (λ o. lit< tt);
     }

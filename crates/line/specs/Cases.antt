@@ -130,9 +130,9 @@ pub record RefusedBy (v : ℕ) (r : Rec) : Type 0 where
 -- of a record that fails several the first decides; the last byte that can be counted; an empty slice is not asked 3
 pub record QuestionCases : Type 0 where
   pub no-reader : fresh 2 ≡ refused 1
-  pub first : RefusedBy 1 (recordAt 2 (unknown 8) 4294967295)
-  pub second : RefusedBy 2 (recordAt 0 (unknown 8) 4294967295)
-  pub third : RefusedBy 3 (recordAt 0 (at W) 4294967295)
-  pub empty : (r : Rec) (a : Event) (n : ℕ) → FeedPost (recordAt 0 (at W) 4294967295) [] r a n → (a ≡ nothing) × (n ≡ 0)
-  pub last : (r : Rec) (a : Event) (n : ℕ) → FeedPost (recordAt 0 (at W) 4294967294) (0 ∷ 0 ∷ []) r a n
-      → (r ≡ recordAt 0 (at W) 4294967295) × (a ≡ nothing) × (n ≡ 1)
+  pub first : RefusedBy 1 (recordAt 2 (unknown 8) 18446744073709551615)
+  pub second : RefusedBy 2 (recordAt 0 (unknown 8) 18446744073709551615)
+  pub third : RefusedBy 3 (recordAt 0 (at W) 18446744073709551615)
+  pub empty : (r : Rec) (a : Event) (n : ℕ) → FeedPost (recordAt 0 (at W) 18446744073709551615) [] r a n → (a ≡ nothing) × (n ≡ 0)
+  pub last : (r : Rec) (a : Event) (n : ℕ) → FeedPost (recordAt 0 (at W) 18446744073709551614) (0 ∷ 0 ∷ []) r a n
+      → (r ≡ recordAt 0 (at W) 18446744073709551615) × (a ≡ nothing) × (n ≡ 1)

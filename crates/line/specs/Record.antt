@@ -42,7 +42,7 @@ pub record Rec : Type 0 where
 
 -- the limit of fed
 abbrev pub limit : ℕ
-limit = 4294967295
+limit = 18446744073709551615
 
 -- no place is asked of an unknown number: question 2 comes first
 abbrev pub stateOf : Place → State

@@ -52,7 +52,7 @@ totalOf r = totalLine (r .fed) (r .accepted) (r .refused) (r .outside) (r .pendi
 
 -- the digits of the largest count
 abbrev pub countDigits : ℕ
-countDigits = 10
+countDigits = 20
 
 -- the longest lines: of an event, whose number has three digits, and of the total
 abbrev pub longestEvent : ℕ

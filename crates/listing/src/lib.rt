@@ -12,7 +12,7 @@ ghost use Rattle.record.specs.View.{view};
 ghost use Rattle.listing.specs.Text.{space, decimal, hexDigit, decimals, eventLine, totalLine, totalOf, longestEvent, longestTotal};
 
 // The decimal digits of the largest count.
-const COUNT_DIGITS: usize = 10;
+const COUNT_DIGITS: usize = 20;
 
 // The lengths of the longest lines: of an event, and of the total.
 pub const LONGEST_EVENT: usize = 2 * COUNT_DIGITS + 9;

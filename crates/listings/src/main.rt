@@ -1,6 +1,6 @@
 // Reads calls as hexadecimal text, a line each, and prints what the calls answer that write a listing or count its events, and the
 // functions of the static library. A line that starts with # is printed as it is. Any other is call, mode, identifier, room in two
-// bytes, low byte first, then for calls 01 to 05 the bytes or data, for the others five numbers of four bytes, low byte first, then
+// bytes, low byte first, then for calls 01 to 05 the bytes or data, for the others five numbers of eight bytes, low byte first, then
 // the bytes:
 // - 01 list, 02 binr_list: the listing of the bytes
 // - 03 binr_write: the frame of a message
@@ -27,10 +27,6 @@ fn octet(n: u8) {
     number(n as u64);
 }
 
-fn word(n: Count) {
-    number(n as u64);
-}
-
 fn size(n: usize) {
     number(n as u64);
 }
@@ -53,7 +49,7 @@ fn given(s: &[u8], i: usize) -> Count {
     if 4 < i {
         return 0;
     }
-    numbers::u32_at(s, 5 + 4 * i) as Count
+    numbers::u64_at(s, 5 + 8 * i)
 }
 
 fn run_event(s: &[u8], buf: &mut [u8]) {
@@ -109,18 +105,18 @@ fn reader_of(s: &[u8]) -> Reader {
 }
 
 fn counts(h: Head) {
-    word(h.fed);
-    word(h.accepted);
-    word(h.refused);
-    word(h.outside);
-    word(h.pending);
+    number(h.fed);
+    number(h.accepted);
+    number(h.refused);
+    number(h.outside);
+    number(h.pending);
 }
 
 fn run_part(s: &[u8], buf: &mut [u8]) {
-    if s.len() < 25 {
+    if s.len() < 45 {
         return;
     }
-    let p = lister::list_part(reader_of(s), &s[25..], buf);
+    let p = lister::list_part(reader_of(s), &s[45..], buf);
     octet(p.refusal);
     size(p.taken);
     size(p.length);

@@ -4,7 +4,7 @@ ghost use mathlib.Core.Path.{_≡_};
 ghost use Rattle.record.specs.Posts.{FreshPost, blankRecord};
 
 // A count of bytes.
-pub type Count = u32;
+pub type Count = u64;
 
 // The numbers of the record. Mode and place are numbers, so that a wrong one can be refused.
 pub struct Head {
@@ -104,7 +104,7 @@ impl Reader {
     pub const CAPACITY: usize = 1024;
 
     // The largest number of bytes that can be counted.
-    pub const LIMIT: Count = 4294967295;
+    pub const LIMIT: Count = 18446744073709551615;
 
     // A record of a mode that has taken nothing.
     fn blank(mode: u8) -> Reader

@@ -74,9 +74,10 @@ pub totalled : (r : Rec) (x : Reads) (e : Ended) → ReadsPost r x → TotalPost
 totalled r x e p t =
     record {
       bytes = p .bytes;
-      read = p .read ∙ sym (t .read);
+      read = omega (arith, p .read, t .read, t .rest);
       after = (λ i. until (t .refusal i) (view (t .reader i))) ∙ p .after;
       total = t .total ∙ sym (ap (λ (g : Reader). totalOf (view g)) (t .reader));
+      rest = λ z. t .rest ∙ p .rest (sym (t .refusal) ∙ z);
       last = λ w z. subst⁻¹ Status (t .last) (p .last (t .written w) (sym (t .refusal) ∙ z));
     }
 

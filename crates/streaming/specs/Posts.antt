@@ -2,7 +2,7 @@
 use mathlib.Core.Bool.{true, false}
 use mathlib.Core.List.{List}
 use mathlib.Core.Path.{_≡_}
-use Prim.Native.Nat.{ℕ, _<_}
+use Prim.Native.Nat.{ℕ, _+_, _<_}
 use lib.IntN.{pos}
 use lib.ListN.{length, take, replicate}
 use Rattle.libc.specs.Io.{Status}
@@ -32,8 +32,10 @@ pub record ChunkPost (r : Reader) (s : List ℕ) (x : Chunk) : Type 0 where
 -- failed, the last read was answered by 0, the end, or by -1, an error; or a byte can't be counted
 pub record ReadsPost (r : Rec) (x : Reads) : Type 0 where
   pub bytes : List ℕ
-  pub read : length bytes ≡ x .read
+  pub read : length bytes ≡ x .read + x .rest
   pub after : throughOf (x .chunk) ≡ through r bytes
+  -- rest are those of the last read, where one of them can't be counted
+  pub rest : x .chunk .refusal ≡ 0 → x .rest ≡ 0
   pub last : x .chunk .written ≡ true → x .chunk .refusal ≡ 0 → Status (x .last)
 
 -- the same reads, with the total of their reader
@@ -41,6 +43,7 @@ pub record TotalPost (x : Reads) (e : Ended) : Type 0 where
   pub reader : e .reader ≡ x .chunk .reader
   pub refusal : e .refusal ≡ x .chunk .refusal
   pub read : e .read ≡ x .read
+  pub rest : e .rest ≡ x .rest
   pub last : e .last ≡ x .last
   pub written : e .written ≡ true → x .chunk .written ≡ true
   pub total : take (e .length) (e .total) ≡ totalOf (view (x .chunk .reader))
@@ -48,14 +51,15 @@ pub record TotalPost (x : Reads) (e : Ended) : Type 0 where
 -- a listing of standard input, begun with r: the same, and the total is that of the reader
 pub record InputPost (r : Rec) (e : Ended) : Type 0 where
   pub bytes : List ℕ
-  pub read : length bytes ≡ e .read
+  pub read : length bytes ≡ e .read + e .rest
   pub after : until (e .refusal) (view (e .reader)) ≡ through r bytes
   pub total : take (e .length) (e .total) ≡ totalOf (view (e .reader))
+  pub rest : e .refusal ≡ 0 → e .rest ≡ 0
   pub last : e .written ≡ true → e .refusal ≡ 0 → Status (e .last)
 
 -- nothing is read
 abbrev pub unreadOf : Reader → ℕ → Ended
-unreadOf r v = record { reader = r; refusal = v; written = true; read = 0; last = pos 0; total = replicate longestTotal 0; length = 0 }
+unreadOf r v = record { reader = r; refusal = v; written = true; read = 0; rest = 0; last = pos 0; total = replicate longestTotal 0; length = 0 }
 
 -- by a fresh reader; a mode that has none is refused by 1
 pub record ListedPost (m : ℕ) (e : Ended) : Type 0 where

@@ -18,10 +18,12 @@ pub struct Chunk {
     pub written: bool,
 }
 
-// The same after the last chunk, with the bytes that all reads brought and what the last one answered.
+// The same after the last chunk, with how many bytes the reads brought, and what the last one answered. Where a byte of the last can't
+// be counted, its bytes are `rest`, since 64 bits may not hold the sum; else there are none.
 pub struct Reads {
     pub chunk: Chunk,
     pub read: usize,
+    pub rest: usize,
     pub last: isize,
 }
 
@@ -31,6 +33,7 @@ pub struct Ended {
     pub refusal: u8,
     pub written: bool,
     pub read: usize,
+    pub rest: usize,
     pub last: isize,
     pub total: [u8; LONGEST_TOTAL],
     pub length: usize,
@@ -113,6 +116,7 @@ fn list_reads(first: Chunk) -> Reads
             return Reads {
                 chunk: c,
                 read: read,
+                rest: 0,
                 last: got,
             };
         }
@@ -122,17 +126,19 @@ fn list_reads(first: Chunk) -> Reads
             return Reads {
                 chunk: c,
                 read: read,
+                rest: 0,
                 last: got,
             };
         }
-        read += n;
         if c.refusal != 0 {
             return Reads {
                 chunk: c,
                 read: read,
+                rest: n,
                 last: got,
             };
         }
+        read += n;
     }
 }
 
@@ -169,6 +175,7 @@ fn print_total(x: Reads) -> Ended
         refusal: c.refusal,
         written: written,
         read: x.read,
+        rest: x.rest,
         last: x.last,
         total: total,
         length: n,
@@ -185,6 +192,7 @@ fn unread(r: Reader, refusal: u8) -> Ended
         refusal: refusal,
         written: true,
         read: 0,
+        rest: 0,
         last: 0,
         total: total,
         length: 0,

@@ -84,7 +84,7 @@ valid q =
     let p = decided-yes (i .before .plausible .result) (i .before .plausible .ensures) (i .if3 .left) in
     let l : length (now (s .args .d)) ≡ 1024 = w .if2 .left in
     elim (q .if4 .came) [
-      | inl v ↦ record { whole = l; possible = possible-open (of s) p (v .0 .taken) (v .3 .left ∙ v .2 .ensures) l (long-4a s) (long-4b s) }
+      | inl v ↦ record { whole = l; possible = possible-open (of s) p (v .0 .taken) (v .2 .left ∙ v .1 .ensures) l (long-4a s) (long-4b s) }
       | inr v ↦ record { whole = l; possible = possible-low (of s) p (v .left) (long-4a s) (long-4b s) }
     ]
 
@@ -104,18 +104,15 @@ returns-3 c =
     refused-2 (of s) _ (omega (arith, w .before .if1 .left))
     (λ v. decided-no (c .before .plausible .result) (c .before .plausible .ensures) (c .if3 .taken) (plausible-of (of s) (v .possible)))
 
-cast-if5 : tie.Need-cast-if5
-cast-if5 c = search needs
-
 pending-of-requires : tie.Need-pending-of-requires
 pending-of-requires c κs =
-    let i = c .before .before .before in
+    let i = c .before .before in
     let p = decided-yes (i .before .plausible .result) (i .before .plausible .ensures) (i .if3 .left) in
-    (p .opened (c .before .if4 .taken) .short, i .before .before .if2 .left)
+    (p .opened (c .if4 .taken) .short, i .before .before .if2 .left)
 
 returns-4 : tie.Need-returns-4
 returns-4 c =
-    let o = c .before .before .before in
+    let o = c .before .before in
     let i = o .before .before in
     let w = i .before .before in
     let s = w .before .before .before .before in
@@ -148,7 +145,6 @@ question-spec =
     returns-2
     plausible-requires
     returns-3
-    cast-if5
     pending-of-requires
     returns-4
     returns-5

@@ -31,9 +31,6 @@ fill-requires c κs = search needs
 sub-pending : tie.Need-sub-pending
 sub-pending c = search needs
 
-cast-pending : tie.Need-cast-pending
-cast-pending c = search needs
-
 add-pending : tie.Need-add-pending
 add-pending c = search needs
 
@@ -174,7 +171,6 @@ in-f-spec =
     (tie.spec
     fill-requires
     sub-pending
-    cast-pending
     add-pending
     sub-moving-of
     add-moving-of

@@ -29,9 +29,6 @@ skip-requires c κs = search needs
 sub-outside : tie.Need-sub-outside
 sub-outside c = search needs
 
-cast-outside : tie.Need-cast-outside
-cast-outside c = search needs
-
 add-outside : tie.Need-add-outside
 add-outside c = search needs
 
@@ -87,4 +84,4 @@ returns-2 c k a w =
 
 pub in-w-spec : {M : Type 1} → statement M
 in-w-spec =
-    tie.close (tie.spec skip-requires sub-outside cast-outside add-outside moving-of-requires add-go go-requires returns returns-2)
+    tie.close (tie.spec skip-requires sub-outside add-outside moving-of-requires add-go go-requires returns returns-2)

@@ -71,7 +71,7 @@ returns c =
     let w = a .before .before .loop .inv in
     let q : leZ z (pos 0) ≡ true = t .if1 .taken in
     let m : Moved 65536 z = search (needs, moved a) in
-    record { bytes = w .taken; read = w .count; after = before w; last = λ y e. none 65536 z m q }
+    record { bytes = w .taken; read = omega (arith, w .count); after = before w; rest = λ e. refl; last = λ y e. none 65536 z m q }
 
 slice-aggregate-count : tie.Need-slice-aggregate-count Inv-loop μ-loop
 slice-aggregate-count c = search needs
@@ -123,26 +123,40 @@ returns-2 c =
     let x = p .list-chunk .ensures .cut u in
     record {
       bytes = w .taken;
-      read = w .count;
+      read = omega (arith, w .count);
       after = (λ i. until (x .1 i) (view (x .0 i))) ∙ w .after;
+      rest = λ e. refl;
       last = λ y e. absurd (let g : _≡_ {A = ℕ} 0 1 = cc in omega arith);
     }
-
-add-read : tie.Need-add-read Inv-loop μ-loop
-add-read c =
-    let p = c .before .before .before in
-    let l = p .before .before .before .before .before .before .before .before .before in
-    let r = l .before .before .before in
-    let t = p .before .before .before in
-    let n = countable (r .args .first .reader) (l .loop .c .reader) (l .loop .inv .taken) (r .pre .1) (l .loop .inv .after) in
-    omega (arith, n, l .loop .inv .count, t .count .ensures .0 .0, long (t .before .before .before .before))
 
 returns-3 : tie.Need-returns-3 Inv-loop μ-loop
 returns-3 c =
     let p = c .before .before .before .before .before in
     let l = p .before .before .before .before .before .before .before .before .before in
     let u : p .list-chunk .result .written ≡ true = not-false _ (c .before .before .if2 .left) in
-    record { bytes = l .loop .inv .taken ++ chunk p; read = more p; after = listed p u; last = λ y e. absurd (c .if3 .taken e) }
+    record {
+      bytes = l .loop .inv .taken ++ chunk p;
+      read = more p;
+      after = listed p u;
+      rest = λ e. absurd (c .if3 .taken e);
+      last = λ y e. absurd (c .if3 .taken e);
+    }
+
+-- all of it is counted
+all : (c : tie.After-list-chunk Inv-loop μ-loop) → c .list-chunk .result .written ≡ true → c .list-chunk .result .refusal ≡ 0
+    → let l = c .before .before .before .before .before .before .before .before .before in
+    until 0 (view (c .list-chunk .result .reader))
+    ≡ through (view (l .before .before .before .args .first .reader)) (l .loop .inv .taken ++ chunk c)
+all c u z = ap (λ (n : ℕ). until n (view (c .list-chunk .result .reader))) (sym z) ∙ listed c u
+
+add-read : tie.Need-add-read Inv-loop μ-loop
+add-read c =
+    let p = c .before .before .before .before .before in
+    let l = p .before .before .before .before .before .before .before .before .before in
+    let r = l .before .before .before in
+    let u : p .list-chunk .result .written ≡ true = not-false _ (c .before .before .if2 .left) in
+    let n = countable (r .args .first .reader) (p .list-chunk .result .reader) (l .loop .inv .taken ++ chunk p) (r .pre .1) (all p u (c .if3 .left)) in
+    omega (arith, n, more p)
 
 -- it has bytes
 has-bytes : (c : tie.After-list-chunk Inv-loop μ-loop) → 0 < length (chunk c)
@@ -167,14 +181,12 @@ loop-again c =
     let p = c .before .before .before .before .before in
     let l = p .before .before .before .before .before .before .before .before .before in
     let u : p .list-chunk .result .written ≡ true = not-false _ (c .before .before .if2 .left) in
-    let v : until 0 (view (p .list-chunk .result .reader)) ≡ throughOf (p .list-chunk .result) =
-    ap (λ (n : ℕ). until n (view (p .list-chunk .result .reader))) (sym (c .if3 .left)) in
     record {
       long = long (p .before .before .before .before .before .before .before);
       room = l .loop .inv .room ∙ sym (p .list-chunk .kept .1 .1 .0);
       good = p .list-chunk .ensures .good;
       taken = l .loop .inv .taken ++ chunk p;
-      after = v ∙ listed p u;
+      after = all p u (c .if3 .left);
       refusal = c .if3 .left;
       count = more p;
     }
@@ -199,7 +211,7 @@ list-reads-spec =
     slice-aggregate-list-chunk-2
     list-chunk-requires
     returns-2
-    add-read
     returns-3
+    add-read
     loop-less
     loop-again)

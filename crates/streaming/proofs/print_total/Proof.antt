@@ -38,6 +38,7 @@ returns c =
       reader = refl;
       refusal = refl;
       read = refl;
+      rest = refl;
       last = search needs;
       written = c .before .before .write-on .ensures;
       total = total-whole (t .list-total .result) total b (t .list-total .last .1 .0) (e .0 .0) (e .0 .1) (e .1 .1) .1;

@@ -1,0 +1,3 @@
+pub mod Resuming
+pub mod Account
+pub mod Vectors
