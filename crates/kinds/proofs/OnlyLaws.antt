@@ -95,6 +95,14 @@ test-4A d = tested 0x4A 33 free row-4A refl d
 pub test-4B : (d : List ℕ) → eqb (length d) 42 && true ≡ eqb (content 0x4B d) 0
 test-4B d = tested 0x4B 42 free row-4B refl d
 
+-- 4Bh is judged by its length alone
+pub judged-4B : (d : List ℕ) → content 0x4B d ≡ cond (eqb (length d) 42) 0 11
+judged-4B d = one 0x4B 42 free row-4B refl d ∙ go (eqb (length d) 42)
+  where
+    go : (t : Bool) → by-length 0x4B 42 free row-4B refl t d ≡ cond t 0 11
+    go true = refl
+    go false = refl
+
 -- what is acceptable has the length
 pub long-43 : (d : List ℕ) → content 0x43 d ≡ 0 → length d ≡ lengthOf 0x43
 long-43 d e = long 0x43 6 in43 row-43 refl d e ∙ sym length-43

@@ -1,6 +1,7 @@
 // Reads calls as hexadecimal text, a line each, and prints how the kinds without entries are decoded and encoded. A line that starts
 // with # is printed as it is. Any other is family, identifier, a field's number, a value, room in two bytes, low byte first, then data.
-// The family is 00 for the kinds without data, 01 for those of one byte or none, else the identifier of a kind.
+// The family is 00 for the kinds without data, 01 for those of one byte or none, 02 for the offset from UTC, else the identifier of a
+// kind. The data of family 02 are a second in four bytes, a week in two, then those of a 4Bh; its fields are the bits of the offset.
 //
 // The data are decoded, the field of this number (0: none) gets the value, and the fields are encoded into so many bytes of a buffer
 // of 5A; the families 01 and 20 encode this number and this value as their two fields. A call's line has family, identifier, the
@@ -17,6 +18,10 @@ use fields_49::Gps;
 use fields_byte::OneByte;
 use fields_eb::GlonassTime;
 use octets::Written;
+use utc::answer::Offset;
+ghost use mathlib.Core.Bool.{not};
+ghost use lib.Dec.{T};
+ghost use lib.Ieee.{isNan};
 
 fn number(n: u64) {
     io::write_all(1, b" ");
@@ -376,6 +381,24 @@ fn run_4b(d: &[u8], buf: &mut [u8]) {
     }
 }
 
+fn show_offset(x: f64)
+    requires { ⌜ T (not (isNan x)) ⌝ }
+{
+    octet(0);
+    io::write_all(1, b" ");
+    io::print_hex(1, f64::to_bits(x), 16);
+}
+
+fn run_offset(d: &[u8]) {
+    if d.len() < 6 {
+        return;
+    }
+    match utc::offset(&d[6..], numbers::u32_at(d, 0), numbers::u16_at(d, 4)) {
+        Offset::Seconds(x) => show_offset(x),
+        Offset::Refused(n) => octet(n),
+    }
+}
+
 fn show_eb(f: GlonassTime, which: u8, value: u8, buf: &mut [u8]) {
     octet(0);
     number(f.tau_c);
@@ -404,6 +427,7 @@ fn run(family: u8, id: u8, d: &[u8], which: u8, value: u8, buf: &mut [u8]) {
     match family {
         0x00 => run_empty(id, d, buf),
         0x01 => run_one(id, d, which, value, buf),
+        0x02 => run_offset(d),
         0x20 => run_20(d, which, value, buf),
         0x23 => run_23(d, which, value, buf),
         0x43 => run_43(d, which, value, buf),

@@ -1,4 +1,4 @@
-// The numbers by which calls refuse: one for each question of document 01, in the order in which they are asked.
+// The numbers by which calls refuse: one for each question of document 01, in the order in which they are asked; from 14 on document 02's.
 
 // The mode is neither 0 nor 1.
 pub const MODE: u8 = 1;
@@ -38,3 +38,12 @@ pub const RANGE: u8 = 12;
 
 // The lent buffer is too short.
 pub const BUFFER: u8 = 13;
+
+// The message says that its GPS time is not reliable.
+pub const UNRELIABLE: u8 = 14;
+
+// A second is none of a week, or the weeks are too far apart.
+pub const TIME: u8 = 15;
+
+// A coefficient is not finite.
+pub const NOT_FINITE: u8 = 16;
