@@ -2,6 +2,7 @@
 use mathlib.Core.Path.{_≡_, refl, sym, ap, _∙_}
 use mathlib.Core.Bool.{Bool, true, false, cond, _&&_, _||_, and-eq-true-iff}
 use mathlib.Core.List.{List, [], _∷_, map}
+use mathlib.Core.Logic.{_⊎_, inl, inr}
 use mathlib.Core.Option.{Option, none, some}
 use Prim.Native.Nat.{ℕ, _+_, _<_}
 use native.Mathlib.Numerals.{add-one}
@@ -58,6 +59,20 @@ content-listed id k d e = go (rowIn table id) e
     go : (o : Option Row) → listed o ≡ As k → judged o d ≡ cond (lengthOk k d) (cond (inRange o d) 0 12) 11
     go none q = let z : _≡_ {A = ℕ} 0 1 = cc in absurd (omega arith)
     go (some r) q = let same : r .kind ≡ k = cc in rw same
+
+-- a kind that is listed is refused by 11 or 12
+refused-by : (id : ℕ) (k : Kind) (d : List ℕ) → listed (rowIn table id) ≡ As k → (content id d ≡ 0 → ⊥)
+    → (content id d ≡ 11) ⊎ (content id d ≡ 12)
+refused-by id k d e h = go (lengthOk k d) (inRange (rowIn table id) d) (content-listed id k d e)
+  where
+    go : (a b : Bool) → content id d ≡ cond a (cond b 0 12) 11 → (content id d ≡ 11) ⊎ (content id d ≡ 12)
+    go true true q = absurd (h q)
+    go true false q = inr q
+    go false b q = inl q
+
+pub refused-52 : (d : List ℕ) → (content 0x52 d ≡ 0 → ⊥) → (content 0x52 d ≡ 11) ⊎ (content 0x52 d ≡ 12)
+unfolding table rowIn
+refused-52 d = refused-by 0x52 (record { id = 0x52; short = 0; long = 0; header = 0; width = 7; most = 75 }) d refl
 
 -- each row has one of these identifiers, or leaves its fields free
 abbrev pub among : ℕ → List ℕ → Bool

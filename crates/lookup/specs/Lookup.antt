@@ -1,20 +1,29 @@
--- Document 01, lookup in 52h data.
-use mathlib.Core.Path.{_≡_}
+-- Document 01, lookup in 52h data; of several entries with both system and number the first (document 02, Point 7).
+use mathlib.Core.Bool.{Bool, cond, _&&_}
 use mathlib.Core.List.{List}
-use Prim.Native.Nat.{ℕ, _/_, _<_}
+use Prim.Native.Nat.{ℕ, zero, suc, _/_}
+use lib.Dec.{eqb}
 use lib.ListN.{length}
 use Rattle.kinds.specs.Kinds.{content}
 use Rattle.lookup.specs.declared.Found.{Found}
 use Rattle.lookup.specs.declared.Found.the-variants.{At, Nothing, Refused}
 use Rattle.encoding.specs.Entries.{entrySlice}
 use Rattle.fields_52.specs.Fields.{entryOf, visibles}
+use Rattle.fields_52.specs.declared.Entry.{Entry}
 
--- the entry at an index has both
-abbrev pub Holds : List ℕ → ℕ → ℕ → ℕ → Type 0
-Holds d s n i = let e = entryOf (entrySlice visibles d i) in (e .system ≡ s) × (e .number ≡ n)
+-- the entry at an index
+abbrev pub entryAt : List ℕ → ℕ → Entry
+entryAt d i = entryOf (entrySlice visibles d i)
 
--- data that fails gives its refusal; else any one index whose entry has both, or none exactly when no entry does
-abbrev pub Finds : List ℕ → ℕ → ℕ → Found → Type 0
-Finds d s n (At i) = (content 0x52 d ≡ 0) × (i < length d / 7) × Holds d s n i
-Finds d s n Nothing = (content 0x52 d ≡ 0) × ((i : ℕ) → i < length d / 7 → Holds d s n i → ⊥)
-Finds d s n (Refused v) = (content 0x52 d ≡ v) × (v ≡ 0 → ⊥)
+-- whether it has both
+abbrev pub has : List ℕ → ℕ → ℕ → ℕ → Bool
+has d s n i = eqb (entryAt d i .system) s && eqb (entryAt d i .number) n
+
+-- of the k indices from i on, looked at from the front, the first that passes the test; or none
+unfoldable pub firstFrom : (ℕ → Bool) → ℕ → ℕ → Found
+firstFrom test i zero = Nothing
+firstFrom test i (suc k) = cond (test i) (At i) (firstFrom test (suc i) k)
+
+-- the data's refusal; where there is none, the first entry that has both
+unfoldable pub foundIn : List ℕ → ℕ → ℕ → Found
+foundIn d s n = cond (eqb (content 0x52 d) 0) (firstFrom (has d s n) 0 (length d / 7)) (Refused (content 0x52 d))

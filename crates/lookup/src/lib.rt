@@ -1,5 +1,6 @@
 // Lookup of a satellite in 52h data.
-ghost use Rattle.lookup.specs.Lookup.{Finds};
+ghost use mathlib.Core.Path.{_≡_};
+ghost use Rattle.lookup.specs.Lookup.{foundIn};
 
 // What lookup gives: an entry's index, no entry, or why the data fails.
 pub enum Found {
@@ -8,9 +9,9 @@ pub enum Found {
     Refused(u8),
 }
 
-// Any one entry of 52h data that has both the system and the number.
+// The first entry of 52h data that has both the system and the number.
 pub fn find_satellite(body: &[u8], system: u8, number: u8) -> Found
-    ensures { λ r. ⌜ Finds (now (body .entry)) system number r ⌝ }
+    ensures { λ r. ⌜ r ≡ foundIn (now (body .entry)) system number ⌝ }
 {
     let refusal = kinds::content(0x52, body);
     if refusal != 0 {
