@@ -253,6 +253,9 @@ fn run_refusals() {
         refusals::LENGTH,
         refusals::RANGE,
         refusals::BUFFER,
+        refusals::UNRELIABLE,
+        refusals::TIME,
+        refusals::NOT_FINITE,
     ];
     decimals(&all);
 }
