@@ -15,6 +15,7 @@
 // - 09 store, acceptable: identifier and length are the first two bytes, the data those after them
 // - 0A question: the first byte is the mode, the next two numbers of eight bytes are fed and outside; a is the length of the array, b
 //   how many bytes are offered
+// - 0B contains, insert, place: a is the set, b the place; system and number are the first two bytes
 // - 0C parse, line_end: of the bytes as text, with room b, and from place a on
 // - 0D number, of every refusal
 // - 0E int8_byte, int16_word, of numbers at the ends and around 0
@@ -256,6 +257,7 @@ fn run_refusals() {
         refusals::UNRELIABLE,
         refusals::TIME,
         refusals::NOT_FINITE,
+        refusals::NO_SATELLITE,
     ];
     decimals(&all);
 }
@@ -272,6 +274,12 @@ fn run_bits() {
     half(numbers::int16_word(-1));
     half(numbers::int16_word(0));
     half(numbers::int16_word(32767));
+}
+
+fn run_set(set: u64, place: u64, d: &[u8]) {
+    flag(satellites::contains(set, place));
+    number(satellites::insert(set, place));
+    number(satellites::place(octets::byte_at(d, 0), octets::byte_at(d, 1)));
 }
 
 fn run_date(d: &[u8]) {
@@ -301,6 +309,7 @@ fn run(call: u8, a: u64, b: u64, d: &[u8]) {
         6 => run_stuffing(a as usize, d),
         7 => run_sums(d),
         9 => run_store(d),
+        11 => run_set(a, b, d),
         13 => run_refusals(),
         14 => run_bits(),
         15 => run_date(d),

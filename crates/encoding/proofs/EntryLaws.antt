@@ -1,14 +1,14 @@
 -- Laws of entries one after the other, over any header and width: reading one more, laying out one more, and both ways.
 use mathlib.Core.Path.{_≡_, refl, sym, ap, _∙_}
-use mathlib.Core.Bool.{Bool, true, false, _&&_, and-eq-true-iff}
-use mathlib.Core.List.{List, [], _∷_, _++_, append-assoc}
+use mathlib.Core.Bool.{Bool, true, false, cond, _&&_, and-eq-true-iff}
+use mathlib.Core.List.{List, [], _∷_, _++_, append-assoc, append-nil}
 use mathlib.Core.Option.{some}
-use borrow.Author.Tests.{eqb-true, eqb-false, leb-true}
+use borrow.Author.Tests.{eqb-true, eqb-false, leb-true, lt-ltb, le-ltb}
 use Prim.Native.Nat.{ℕ, zero, suc, _+_, _*_, _-_, _/_, _%_, _≤_, _<_}
-use native.Mathlib.Nat.{mul-zero, mul-suc, mul-le-mul-left}
+use native.Mathlib.Nat.{add-zero, add-suc, mul-zero, mul-suc, mul-le-mul-left}
 use native.Mathlib.Numerals.{add-one}
 use native.Mathlib.Omega.{arith}
-use lib.Dec.{eqb, leb}
+use lib.Dec.{eqb, leb, ltb}
 use lib.ListN.{length, take, drop, getD, set, replicate, length-append, length-drop}
 use lib.Seq.{set-at, append-snoc, take-all, take-add, take-suc, take-append-le, take-append-add, take-at, length-take-le}
 use lib.Seq.{drop-append-le, drop-at, drop-drop, getD-at, getD-take, getD-drop}
@@ -60,14 +60,14 @@ module _ {A : Type 0} where
       go false e ih = let q = eqb-false i n e in ih (omega arith)
 
 module _ (g : ℕ → List ℕ) (w : ℕ) where
-  length-laid : (n : ℕ) → ((i : ℕ) → i < n → length (g i) ≡ w) → length (laidOut g n) ≡ w * n
+  pub length-laid : (n : ℕ) → ((i : ℕ) → i < n → length (g i) ≡ w) → length (laidOut g n) ≡ w * n
   unfolding laidOut
   length-laid zero long = sym (mul-zero w)
   length-laid (suc n) long =
       rw (length-append (laidOut g n) (g n), length-laid n (λ i l. long i (omega arith)), long n (omega arith)) (sym (mul-suc w n))
 
   -- the bytes at i among those that were laid out
-  laid-at : (n i : ℕ) → ((j : ℕ) → j < n → length (g j) ≡ w) → i < n → take w (drop (w * i) (laidOut g n)) ≡ g i
+  pub laid-at : (n i : ℕ) → ((j : ℕ) → j < n → length (g j) ≡ w) → i < n → take w (drop (w * i) (laidOut g n)) ≡ g i
   unfolding laidOut
   laid-at zero i long l = absurd (omega arith)
   laid-at (suc n) i long l = go (eqb i n) refl (λ k. laid-at n i (λ j m. long j (omega arith)) k)
@@ -87,6 +87,16 @@ module _ (g : ℕ → List ℕ) (w : ℕ) where
           let b : w ≤ length (drop (w * i) (laidOut g n)) = rw length-drop (omega (arith, all)) in
           rw (drop-append-le (w * i) (laidOut g n) (g n) a, take-append-le w (drop (w * i) (laidOut g n)) (g n) b) (ih k)
 
+  -- those of g i, placed right after the ones before them
+  pub laid-next : (b : List ℕ) (h i at : ℕ) → ((j : ℕ) → j < i + 1 → length (g j) ≡ w) → at ≡ h + w * i → at + w ≤ length b
+      → (all : List ℕ) → all ≡ placed b h (laidOut g i) → (x : List ℕ) → x ≡ g i → placed all at x ≡ placed b h (laidOut g (i + 1))
+  unfolding laidOut
+  laid-next b h i at long p r all q x y =
+      let l = length-laid i (λ j m. long j (omega arith)) in
+      let t : at ≡ h + length (laidOut g i) = omega arith in
+      let k : h + length (laidOut g i) + length (g i) ≤ length b = omega (arith, long i (omega arith)) in
+      (λ k. placed (q k) (t k) (y k)) ∙ rw add-one (placed-more b h (laidOut g i) (g i) k)
+
 -- all the pieces of some data
 all-pieces : (w h : ℕ) (d : List ℕ) (n : ℕ) → laidOut (λ i. take w (drop (h + w * i) d)) n ≡ take (w * n) (drop h d)
 unfolding laidOut
@@ -97,6 +107,20 @@ laid-same : (g h : ℕ → List ℕ) (n : ℕ) → ((i : ℕ) → i < n → g i 
 unfolding laidOut
 laid-same g h zero e = refl
 laid-same g h (suc n) e = rw (laid-same g h n (λ i l. e i (omega arith)), e n (omega arith))
+
+-- two layouts, one after the other
+pub laid-join : (g h : ℕ → List ℕ) (n m : ℕ) → laidOut g n ++ laidOut h m ≡ laidOut (λ i. cond (ltb i n) (g i) (h (i - n))) (n + m)
+unfolding laidOut
+laid-join g h n zero =
+    append-nil (laidOut g n)
+    ∙ laid-same g (λ i. cond (ltb i n) (g i) (h (i - n))) n (λ i l. sym (ap (λ (t : Bool). cond t (g i) (h (i - n))) (lt-ltb i n l)))
+    ∙ ap (laidOut (λ i. cond (ltb i n) (g i) (h (i - n)))) (sym (add-zero n))
+laid-join g h n (suc m) =
+    let one : h m ≡ cond (ltb (n + m) n) (g (n + m)) (h (n + m - n)) =
+    ap h (omega arith) ∙ sym (ap (λ (t : Bool). cond t (g (n + m)) (h (n + m - n))) (le-ltb (n + m) n (omega arith))) in
+    sym (append-assoc (laidOut g n) (laidOut h m) (h m))
+    ∙ (λ k. laid-join g h n m k ++ one k)
+    ∙ ap (laidOut (λ i. cond (ltb i n) (g i) (h (i - n)))) (sym (add-suc n m))
 
 module _ {E : Type 0} (s : Series E) where
   -- each of the first n entries takes as many bytes as the width says
@@ -141,13 +165,7 @@ module _ {E : Type 0} (s : Series E) where
   pub laid-more : (b : List ℕ) (es : List E) (i at : ℕ) → Long es (i + 1) → at ≡ s .header + s .width * i → at + s .width ≤ length b
       → (all : List ℕ) → all ≡ placed b (s .header) (entriesData s es i) → (x : List ℕ) → x ≡ s .entryData (getD es i (s .blank))
       → placed all at x ≡ placed b (s .header) (entriesData s es (i + 1))
-  unfolding laidOut
-  laid-more b es i at long p r all q x y =
-      let l = length-entries es i (λ j m. long j (omega arith)) in
-      let g = s .entryData (getD es i (s .blank)) in
-      let t : at ≡ s .header + length (entriesData s es i) = omega arith in
-      let k : s .header + length (entriesData s es i) + length g ≤ length b = omega (arith, long i (omega arith)) in
-      (λ k. placed (q k) (t k) (y k)) ∙ rw add-one (placed-more b (s .header) (entriesData s es i) g k)
+  laid-more b es i at = laid-next (λ j. s .entryData (getD es j (s .blank))) (s .width) b (s .header) i at
 
   -- all entries are placed: the header's bytes, and theirs
   pub laid-done : (b : List ℕ) (es : List E) (n : ℕ) → Long es n → s .header + s .width * n ≤ length b

@@ -1,13 +1,17 @@
-// Reads calls as hexadecimal text, a line each, and prints how the kinds with entries are decoded and encoded, and what lookup finds.
-// A line that starts with # is printed as it is. Any other is one of
+// Reads calls as hexadecimal text, a line each, and prints how the kinds with entries are decoded and encoded, what lookup finds, and
+// words of satellites. A line that starts with # is printed as it is. Any other is one of
 // - 47, 52 or F5, an index, a field's number, a value, room in two bytes, low byte first, data
 // - 00, system, number, three bytes without meaning, data of 52h
+// - 01, three bytes without meaning, room in two bytes, data of 47h
+// - 02, three bytes without meaning, room in two bytes, a word of satellites in eight bytes, low byte first
 //
 // The data are decoded; the field of this number in the entry at this index gets the value (0: none; 1 of 52h and F5h: the number of
 // entries; 8 to 12 of F5h: the header's), and the fields are encoded into so many bytes of a buffer of 5A. Such a line has the refusal
 // of the data and, where there is none, the header of F5h (FP64 as hexadecimal bits), the number of entries and each entry, in F5h with
 // its 26 bytes as they are; then the refusal and the length of the encoding, and last the buffer up to four bytes past the room. A line
-// of lookup has the index, none, or the refusal.
+// of lookup has the index, none, or the refusal. A line of 01 has the refusal, the word and the count of the data and, where it is not
+// refused, the refusal and the length of writing its word into the room; one of 02 has those of writing the word and, where it is not
+// refused, the refusal, the word and the count of the 168 bytes written. Both end with the buffer.
 use fields_47::Use;
 use fields_47::Uses;
 use fields_52::Entry;
@@ -15,6 +19,7 @@ use fields_52::Visible;
 use fields_f5::Channel;
 use fields_f5::Header;
 use fields_f5::Measurements;
+use in_use::InUse;
 use lookup::Found;
 use octets::Written;
 
@@ -354,6 +359,37 @@ fn run_lookup(d: &[u8], system: u8, satellite: u8) {
     }
 }
 
+fn show_in_use(r: InUse) {
+    octet(r.refusal);
+    bits(r.word);
+    number(r.count as u64);
+}
+
+fn run_word(d: &[u8], buf: &mut [u8]) {
+    let r = in_use::word(d);
+    show_in_use(r);
+    if r.refusal != 0 {
+        return;
+    }
+    answer(in_use::write(r.word, buf));
+}
+
+// Of the first 168 bytes, which are there where a word was written.
+fn show_word(s: &[u8]) {
+    if s.len() < 168 {
+        return;
+    }
+    show_in_use(in_use::word(&s[0..168]));
+}
+
+fn run_write(d: &[u8], buf: &mut [u8]) {
+    let w = in_use::write(numbers::u64_at(d, 0), buf);
+    answer(w);
+    if w.refusal == 0 {
+        show_word(buf);
+    }
+}
+
 fn run(s: &[u8], buf: &mut [u8]) {
     if s.len() < 6 {
         return;
@@ -364,6 +400,8 @@ fn run(s: &[u8], buf: &mut [u8]) {
         0x47 => run_47(d, at, s[2], s[3], buf),
         0x52 => run_52(d, at, s[2], s[3], buf),
         0xF5 => run_f5(d, at, s[2], s[3], buf),
+        1 => run_word(d, buf),
+        2 => run_write(d, buf),
         _ => run_lookup(d, s[1], s[2]),
     }
 }

@@ -8,7 +8,7 @@ use native.Mathlib.Omega.{arith}
 use borrow.Author.Tests.{eqb-true, eq-eqb}
 use lib.Dec.{eqb}
 use lib.ListN.{length}
-use Rattle.ranges.specs.Ranges.{free, in43, in46, inEB}
+use Rattle.ranges.specs.Ranges.{free, in43, in46, in47, inEB}
 use Rattle.octets.specs.Bytes.{byte}
 use Rattle.kinds.specs.Kinds.{only, table, rowIn, allows, chosen49, lengthOk, inRange, judged, content, oneLength, lengthOf}
 
@@ -22,6 +22,14 @@ module _ (id n : ℕ) (f : List ℕ → Bool) (row : rowIn table id ≡ some (on
   one d =
       ap (λ o. judged o d) row
       ∙ ap (λ t. cond ((eqb (length d) n || eqb (length d) n) && cond t (chosen49 (byte d 0) (length d)) true) (cond (f d) 0 12) 11) plain
+
+  -- by the length, then by the ranges
+  in-order : (d : List ℕ) → content id d ≡ cond (eqb (length d) n) (cond (f d) 0 12) 11
+  in-order d = one d ∙ go (eqb (length d) n)
+    where
+      go : (t : Bool) → by-length t d ≡ cond t (cond (f d) 0 12) 11
+      go true = refl
+      go false = refl
 
   pub tested : (d : List ℕ) → eqb (length d) n && f d ≡ eqb (content id d) 0
   tested d = go (eqb (length d) n) (f d) refl ∙ ap (λ v. eqb v 0) (sym (one d))
@@ -97,11 +105,15 @@ test-4B d = tested 0x4B 42 free row-4B refl d
 
 -- 4Bh is judged by its length alone
 pub judged-4B : (d : List ℕ) → content 0x4B d ≡ cond (eqb (length d) 42) 0 11
-judged-4B d = one 0x4B 42 free row-4B refl d ∙ go (eqb (length d) 42)
-  where
-    go : (t : Bool) → by-length 0x4B 42 free row-4B refl t d ≡ cond t 0 11
-    go true = refl
-    go false = refl
+judged-4B = in-order 0x4B 42 free row-4B refl
+
+-- 47h is judged by its length, then by its fields
+row-47 : rowIn table 0x47 ≡ some (only 0x47 168 in47)
+unfolding table rowIn
+row-47 = refl
+
+pub judged-47 : (d : List ℕ) → content 0x47 d ≡ cond (eqb (length d) 168) (cond (in47 d) 0 12) 11
+judged-47 = in-order 0x47 168 in47 row-47 refl
 
 -- what is acceptable has the length
 pub long-43 : (d : List ℕ) → content 0x43 d ≡ 0 → length d ≡ lengthOf 0x43

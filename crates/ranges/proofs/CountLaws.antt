@@ -1,11 +1,11 @@
 -- Laws of what holds of the numbers below n, and of how many it holds.
-use mathlib.Core.Path.{_≡_, refl, ap₂, _∙_}
-use mathlib.Core.Bool.{Bool, true, false, cond, and-eq-true-iff}
+use mathlib.Core.Path.{_≡_, refl, ap, ap₂, _∙_}
+use mathlib.Core.Bool.{Bool, true, false, cond, _&&_, and-eq-true-iff}
 use Prim.Native.Nat.{ℕ, zero, suc, _+_, _≤_, _<_}
 use native.Mathlib.Numerals.{add-one}
 use native.Mathlib.Omega.{arith}
-use borrow.Author.Tests.{eqb-true, eqb-false, ne-eqb}
-use lib.Dec.{eqb}
+use borrow.Author.Tests.{eqb-true, eqb-false, ne-eqb, ltb-true, ltb-false}
+use lib.Dec.{eqb, ltb}
 use Rattle.ranges.specs.Ranges.{all, count}
 
 -- a test that can't hold fails; it can't both hold and fail
@@ -55,10 +55,64 @@ unfolding count
 count-le i zero f h = let e : i ≡ 0 = omega arith in rw e (omega arith)
 count-le i (suc n) f h = last (λ k. count k f ≤ count (suc n) f) (suc n) i (omega arith) (λ l. omega (arith, count-le i n f (omega arith))) (omega arith)
 
+-- a number below n of which it holds
+pub record Some (n : ℕ) (f : ℕ → Bool) : Type 0 where
+  pub index : ℕ
+  pub below : index < n
+  pub holds : f index ≡ true
+
+pub count-some : (n : ℕ) (f : ℕ → Bool) → 1 ≤ count n f → Some n f
+unfolding count
+count-some zero f h = absurd (omega arith)
+count-some (suc n) f h = go (f n) refl h (count-some n f)
+  where
+    go : (t : Bool) → f n ≡ t → 1 ≤ count n f + cond t 1 0 → (1 ≤ count n f → Some n f) → Some (suc n) f
+    go true e k ih = record { index = n; below = omega arith; holds = e }
+    go false e k ih = let s = ih (omega arith) in record { index = s .index; below = omega (arith, s .below); holds = s .holds }
+
+count-at : (f : ℕ → Bool) (i : ℕ) → f i ≡ true → count (i + 1) f ≡ count i f + 1
+count-at f i e = count-more f i ∙ ap (λ (t : Bool). count i f + cond t 1 0) e
+
+-- it holds of one number at most: any two of which it holds are one
+pub count-one : (n : ℕ) (f : ℕ → Bool) → count n f ≤ 1 → (i j : ℕ) → i < n → j < n → f i ≡ true → f j ≡ true → i ≡ j
+count-one n f one i j k l p q = go (ltb i j) refl (ltb j i) refl
+  where
+    twice : (a b : ℕ) → a < b → b < n → f a ≡ true → f b ≡ true → ⊥
+    twice a b m o x y =
+        omega (arith, count-at f a x, count-at f b y, count-le (a + 1) b f (omega arith), count-le (b + 1) n f (omega arith))
+
+    go : (t : Bool) → ltb i j ≡ t → (u : Bool) → ltb j i ≡ u → i ≡ j
+    go true x u y = absurd (twice i j (ltb-true i j x) l p q)
+    go false x true y = absurd (twice j i (ltb-true j i y) k q p)
+    go false x false y = let a = ltb-false i j x in let b = ltb-false j i y in omega arith
+
+pub count-apart : (n : ℕ) (f : ℕ → Bool) → ((i j : ℕ) → i < n → j < n → f i ≡ true → f j ≡ true → i ≡ j) → count n f ≤ 1
+unfolding count
+count-apart zero f h = omega arith
+count-apart (suc n) f h = go (f n) refl (ltb 0 (count n f)) refl (count-apart n f (λ i j k l. h i j (omega arith) (omega arith)))
+  where
+    go : (t : Bool) → f n ≡ t → (u : Bool) → ltb 0 (count n f) ≡ u → count n f ≤ 1 → count n f + cond t 1 0 ≤ 1
+    go true e true q ih =
+        let s = count-some n f (ltb-true 0 (count n f) q) in
+        let z : s .index ≡ n = h (s .index) n (omega (arith, s .below)) (omega arith) (s .holds) e in
+        absurd (omega (arith, s .below))
+    go true e false q ih = omega (arith, ltb-false 0 (count n f) q)
+    go false e u q ih = omega arith
+
+count-all : (n : ℕ) → count n (λ i. true) ≡ n
+unfolding count
+count-all zero = refl
+count-all (suc n) = ap (λ (k : ℕ). k + 1) (count-all n) ∙ add-one n
+
 -- the sum of g 0 .. g (n - 1)
-unfoldable sum : ℕ → (ℕ → ℕ) → ℕ
+unfoldable pub sum : ℕ → (ℕ → ℕ) → ℕ
 sum zero g = 0
 sum (suc n) g = sum n g + g n
+
+pub sum-same : (n : ℕ) (g h : ℕ → ℕ) → ((p : ℕ) → p < n → g p ≡ h p) → sum n g ≡ sum n h
+unfolding sum
+sum-same zero g h e = refl
+sum-same (suc n) g h e = rw (sum-same n g h (λ p l. e p (omega arith)), e n (omega arith))
 
 sum-add : (n : ℕ) (g h : ℕ → ℕ) → sum n (λ p. g p + h p) ≡ sum n g + sum n h
 unfolding sum
@@ -84,14 +138,18 @@ sum-one (suc m) x h = go (eqb x m) refl (λ l. sum-one m x l)
         omega (arith, sum-zero m ones (λ p l. let q : x ≡ p → ⊥ = λ z. omega (arith, eqb-true x m e) in rw (ne-eqb x p q)))
     go false e ih = let q = eqb-false x m e in let l : x < m = omega arith in omega (arith, ih l)
 
--- n numbers below m: how often each occurs adds up to n
-sum-counts : (m n : ℕ) (f : ℕ → ℕ) → ((j : ℕ) → j < n → f j < m) → sum m (λ p. count n (λ j. eqb (f j) p)) ≡ n
+-- n numbers below m, some of which pass a test: how often each occurs among these adds up to how many they are
+pub sum-counts : (m n : ℕ) (test : ℕ → Bool) (f : ℕ → ℕ) → ((j : ℕ) → j < n → f j < m)
+    → sum m (λ p. count n (λ j. test j && eqb (f j) p)) ≡ count n test
 unfolding count
-sum-counts m zero f h = sum-zero m (λ p. 0) (λ p l. refl)
-sum-counts m (suc n) f h =
-    sum-add m (λ p. count n (λ j. eqb (f j) p)) (λ p. cond (eqb (f n) p) 1 0)
-    ∙ ap₂ (λ (x y : ℕ). x + y) (sum-counts m n f (λ j l. h j (omega arith))) (sum-one m (f n) (h n (omega arith)))
-    ∙ add-one n
+sum-counts m zero test f h = sum-zero m (λ p. 0) (λ p l. refl)
+sum-counts m (suc n) test f h =
+    sum-add m (λ p. count n (λ j. test j && eqb (f j) p)) (λ p. cond (test n && eqb (f n) p) 1 0)
+    ∙ ap₂ (λ (x y : ℕ). x + y) (sum-counts m n test f (λ j l. h j (omega arith))) (go (test n))
+  where
+    go : (t : Bool) → sum m (λ p. cond (t && eqb (f n) p) 1 0) ≡ cond t 1 0
+    go true = sum-one m (f n) (h n (omega arith))
+    go false = sum-zero m (λ p. 0) (λ p l. refl)
 
 sum-le : (m : ℕ) (g : ℕ → ℕ) → ((p : ℕ) → p < m → g p ≤ 1) → sum m g ≤ m
 unfolding sum
@@ -111,4 +169,4 @@ sum-full (suc m) g h e p l =
 -- n numbers below n, none twice: each occurs once
 pub each-once : (n : ℕ) (f : ℕ → ℕ) → ((j : ℕ) → j < n → f j < n) → ((p : ℕ) → count n (λ j. eqb (f j) p) ≤ 1)
     → (p : ℕ) → p < n → count n (λ j. eqb (f j) p) ≡ 1
-each-once n f h m = sum-full n (λ p. count n (λ j. eqb (f j) p)) (λ p l. m p) (sum-counts n n f h)
+each-once n f h m = sum-full n (λ p. count n (λ j. eqb (f j) p)) (λ p l. m p) (sum-counts n n (λ j. true) f h ∙ count-all n)

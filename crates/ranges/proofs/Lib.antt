@@ -1,3 +1,2 @@
 pub mod CountLaws
-pub mod BitLaws
 pub mod OnceLaws

@@ -2,17 +2,17 @@
 use mathlib.Core.Path.{_≡_, refl, sym, ap, _∙_}
 use mathlib.Core.Bool.{Bool, true, false, cond, _&&_, and-eq-true-iff}
 use mathlib.Core.List.{List}
-use Prim.Native.Nat.{ℕ, _+_, _*_, _-_, _^_, _≤_, _<_}
+use Prim.Native.Nat.{ℕ, _+_, _*_, _-_, _≤_, _<_}
 use native.Mathlib.Omega.{arith}
 use borrow.Author.Tests.{eqb-true, eqb-false, eq-eqb}
 use borrow.Author.Count.{below-more}
-use lib.Bits.{bitOr}
 use lib.Dec.{eqb}
 use Rattle.satellites.specs.Satellites.{between, satellite, placeOf}
-use Rattle.satellites.proofs.SatelliteLaws.{Satellite, satellite-is, by-system, place-lt}
+use Rattle.satellites.specs.Sets.{bit, withBit}
+use Rattle.satellites.proofs.SatelliteLaws.{Satellite, satellite-is, by-system, numbered, place-lt, same-satellite, at-place}
+use Rattle.satellites.proofs.BitLaws.{bit-zero, bit-set}
 use Rattle.ranges.specs.Ranges.{count, all, once, in47}
 use Rattle.octets.specs.Bytes.{byte}
-use Rattle.ranges.proofs.BitLaws.{bit, bit-zero, bit-set}
 use Rattle.ranges.proofs.CountLaws.{fails, never, all-at, all-of, count-more, count-same, count-le, each-once}
 
 -- two satellites are the same where their places are
@@ -21,10 +21,8 @@ same-place a b s n p q = go (eqb (placeOf a b) (placeOf s n)) refl
   where
     go : (t : Bool) → eqb (placeOf a b) (placeOf s n) ≡ t → eqb a s && eqb b n ≡ t
     go true e =
-        let z = eqb-true (placeOf a b) (placeOf s n) e in
-        let x : a ≡ s = omega arith in
-        let y : b ≡ n = omega arith in
-        rw (eq-eqb a s x, eq-eqb b n y)
+        let z = same-satellite a b s n p q (eqb-true (placeOf a b) (placeOf s n) e) in
+        rw (eq-eqb a s (z .0), eq-eqb b n (z .1))
     go false e =
         fails (eqb a s && eqb b n) (λ t.
         let r = and-eq-true-iff (eqb a s) (eqb b n) .0 t in
@@ -61,7 +59,7 @@ module _ (d : List ℕ) where
     pub good : (i : ℕ) → i < 56 → valid i ≡ true
     pub one : (s n : ℕ) → Satellite s n → once d s n ≡ true
 
-  to-once : in47 d ≡ true → Once
+  pub to-once : in47 d ≡ true → Once
   to-once e =
       let o = and-eq-true-iff (all 56 valid && allOnce 1 32) (allOnce 2 24) .0 e in
       let v = and-eq-true-iff (all 56 valid) (allOnce 1 32) .0 (o .0) in
@@ -73,8 +71,24 @@ module _ (d : List ℕ) where
   of-once o =
       let at : (s m : ℕ) → 1 ≤ s → s ≤ 2 → 8 * s + m ≤ 40 → allOnce s m ≡ true
       = λ s m l h b.
-      all-of m (λ k. once d s (k + 1)) (λ n k. o .one s (n + 1) (record { low = l; high = h; first = omega arith; last = omega arith })) in
+      all-of m (λ k. once d s (k + 1)) (λ n k. o .one s (n + 1) (numbered s m l h b (n + 1) (omega arith) (omega arith))) in
       rw (all-of 56 valid (o .good), at 1 32 (omega arith) (omega arith) (omega arith), at 2 24 (omega arith) (omega arith) (omega arith))
+
+  -- at each place there is one triple
+  pub at-once : in47 d ≡ true → (p : ℕ) → p < 56 → times 56 p ≡ 1
+  at-once e p l =
+      let o = to-once e in
+      let a = at-place p l in
+      eqb-true _ 1 (ap (λ (q : ℕ). eqb (times 56 q) 1) (sym (a .its-place)) ∙ sym (once-is (o .good) _ _ (a .there)) ∙ o .one _ _ (a .there))
+
+  -- 56 valid triples, and at no place two
+  pub all-apart : ((i : ℕ) → i < 56 → valid i ≡ true) → ((p : ℕ) → times 56 p ≤ 1) → in47 d ≡ true
+  all-apart v most =
+      let below : (j : ℕ) → j < 56 → placeAt j < 56 = λ j l. place-lt _ _ (valid-is j (v j l)) in
+      of-once (record {
+        good = v;
+        one = λ s n p. once-is v s n p ∙ eq-eqb _ 1 (each-once 56 placeAt below most (placeOf s n) (place-lt s n p));
+      })
 
   -- the bits of w are the places of the first i triples, which are valid, and none is there twice
   pub record Seen (w i : ℕ) : Type 0 where
@@ -85,7 +99,7 @@ module _ (d : List ℕ) where
   unfolding count
   seen-none = record { good = λ j l. absurd (omega arith); marks = bit-zero }
 
-  pub seen-more : (w i : ℕ) → Seen w i → valid i ≡ true → bit w (placeAt i) ≡ 0 → Seen (bitOr w (2 ^ placeAt i)) (i + 1)
+  pub seen-more : (w i : ℕ) → Seen w i → valid i ≡ true → bit w (placeAt i) ≡ 0 → Seen (withBit w (placeAt i)) (i + 1)
   seen-more w i h v z =
       record {
         good = below-more (λ j. valid j ≡ true) i (h .good) v;
@@ -93,13 +107,7 @@ module _ (d : List ℕ) where
       }
 
   pub seen-all : (w : ℕ) → Seen w 56 → in47 d ≡ true
-  seen-all w h =
-      let at-most : (p : ℕ) → times 56 p ≤ 1 = λ p. omega (arith, h .marks p) in
-      let below : (j : ℕ) → j < 56 → placeAt j < 56 = λ j l. place-lt _ _ (valid-is j (h .good j l)) in
-      of-once (record {
-        good = h .good;
-        one = λ s n p. once-is (h .good) s n p ∙ eq-eqb _ 1 (each-once 56 placeAt below at-most (placeOf s n) (place-lt s n p));
-      })
+  seen-all w h = all-apart (h .good) (λ p. omega (arith, h .marks p))
 
   -- a triple that is not valid, and one whose place was there before
   pub seen-bad : (i : ℕ) → i < 56 → valid i ≡ false → in47 d ≡ false

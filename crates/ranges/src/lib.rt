@@ -1,9 +1,7 @@
 // The ranges of the fields: question 12 of document 01, in its order. Each test is beside the definition that it decides; a field past
 // the end of the data reads as 0.
-ghost use mathlib.Core.Bool.{cond, true, _&&_};
+ghost use mathlib.Core.Bool.{cond, _&&_};
 ghost use mathlib.Core.Path.{_≡_};
-ghost use Prim.Native.Nat.{_/_, _%_, _^_, _<_};
-ghost use lib.Bits.{bitOr};
 ghost use lib.Dec.{eqb};
 ghost use Rattle.numbers.specs.Signed.{int8};
 ghost use Rattle.satellites.specs.Satellites.{between, satellite, carrier};
@@ -79,21 +77,7 @@ fn triple(system: u8, number: u8, used: u8) -> bool
     satellites::satellite(system, number) & ((1 <= used) & (used <= 2))
 }
 
-fn is_set(seen: u64, p: u64) -> bool
-    requires { ⌜ p < 64 ⌝ }
-    ensures { λ r. ⌜ r ≡ eqb (seen / 2 ^ p % 2) 1 ⌝ }
-{
-    (seen >> p) & 1 == 1
-}
-
-fn set_bit(seen: u64, p: u64) -> u64
-    requires { ⌜ p < 64 ⌝ }
-    ensures { λ r. ⌜ r ≡ bitOr seen (2 ^ p) ⌝ }
-{
-    seen | (1 << p)
-}
-
-// One pass, with a bit for each satellite seen: 56 triples, 56 satellites and none twice, so each is there once.
+// One pass, with the set of the satellites seen: 56 triples, 56 satellites and none twice, so each is there once.
 pub fn in_47(body: &[u8]) -> bool
     ensures { λ r. ⌜ r ≡ in47 (now (body .entry)) ⌝ }
 {
@@ -108,10 +92,10 @@ pub fn in_47(body: &[u8]) -> bool
             return false;
         }
         let p = satellites::place(system, number);
-        if is_set(seen, p) {
+        if satellites::contains(seen, p) {
             return false;
         }
-        seen = set_bit(seen, p);
+        seen = satellites::insert(seen, p);
         i += 1;
     }
     true

@@ -47,3 +47,6 @@ pub const TIME: u8 = 15;
 
 // A coefficient is not finite.
 pub const NOT_FINITE: u8 = 16;
+
+// A bit of a word of satellites is no satellite's.
+pub const NO_SATELLITE: u8 = 17;

@@ -1,1 +1,2 @@
 pub mod SatelliteLaws
+pub mod BitLaws

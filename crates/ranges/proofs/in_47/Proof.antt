@@ -1,14 +1,15 @@
 -- `in_47` meets its contract: the bits are the places of the triples passed, none of them twice.
-use mathlib.Core.Path.{_≡_, sym, ap, _∙_}
-use mathlib.Core.Bool.{Bool, true, cond, _&&_, and-eq-true-iff}
+use mathlib.Core.Path.{_≡_, sym, _∙_}
+use mathlib.Core.Bool.{true, _&&_, and-eq-true-iff}
 use mathlib.Core.List.{List}
 use Prim.Native.Nat.{ℕ, _-_, _≤_, _<_}
 use native.Mathlib.Omega.{arith}
 use borrow.Author.Needs.{needs}
 use borrow.Author.Tests.{not-true, not-false, eqb-true, eqb-false}
 use Rattle.satellites.specs.Satellites.{between, satellite, placeOf}
-use Rattle.satellites.proofs.SatelliteLaws.{place-lt}
-use Rattle.ranges.proofs.BitLaws.{bit}
+use Rattle.satellites.specs.Sets.{bit}
+use Rattle.satellites.proofs.SatelliteLaws.{place-lt, place-there}
+use Rattle.satellites.proofs.BitLaws.{inserted}
 use Rattle.ranges.proofs.OnceLaws.{Seen, valid, valid-is, placeAt, seen-none, seen-more, seen-all, seen-bad, seen-twice}
 use Rattle.ranges.proofs.in_47.Statement.{statement}
 use Rattle.ranges.proofs.in_47.Tie as tie
@@ -40,7 +41,7 @@ place-is : (c : tie.After-place Inv-loop μ-loop) → c .place .result ≡ place
 place-is c =
     let b = c .before .before .before in
     c .place .ensures
-    ∙ ap (λ (t : Bool). cond t (placeOf (b .before .before .byte-at .result) (b .before .byte-at2 .result)) 56) (there c)
+    ∙ place-there _ _ (there c)
     ∙ (λ k. placeOf (b .before .before .byte-at .ensures k) (b .before .byte-at2 .ensures k))
 
 valid-at : (c : tie.After-place Inv-loop μ-loop) → valid (body (c .before .before)) (turn (c .before .before) .loop .i) ≡ true
@@ -81,19 +82,19 @@ returns c =
 place-requires : tie.Need-place-requires Inv-loop μ-loop
 place-requires c κs = tt
 
-is-set-requires : tie.Need-is-set-requires Inv-loop μ-loop
-is-set-requires c κs = omega (arith, below c)
+contains-requires : tie.Need-contains-requires Inv-loop μ-loop
+contains-requires c κs = tt
 
 returns-2 : tie.Need-returns-2 Inv-loop μ-loop
 returns-2 c =
     let p = c .before .before in
     let t = p .before .before in
     let l = turn t in
-    let b : bit (l .loop .seen) (p .place .result) ≡ 1 = eqb-true _ _ (sym (c .before .is-set .ensures) ∙ c .if2 .taken) in
+    let b : bit (l .loop .seen) (p .place .result) ≡ 1 = eqb-true _ _ (sym (c .before .contains .ensures) ∙ c .if2 .taken) in
     sym (seen-twice (body t) (l .loop .seen) (l .loop .i) (l .loop .inv .1) (omega (arith, t .before .before .before .before .loop-test .taken)) (valid-at p) (rw (place-is p) at b))
 
-set-bit-requires : tie.Need-set-bit-requires Inv-loop μ-loop
-set-bit-requires c κs = omega (arith, below (c .before .before))
+insert-requires : tie.Need-insert-requires Inv-loop μ-loop
+insert-requires c κs = tt
 
 add-i : tie.Need-add-i Inv-loop μ-loop
 add-i c = omega arith
@@ -107,10 +108,11 @@ loop-again c =
     let p = s .before in
     let t = p .before .before in
     let l = turn t in
-    let n = eqb-false (bit (l .loop .seen) (p .place .result)) 1 (sym (s .is-set .ensures) ∙ c .before .if2 .left) in
+    let n = eqb-false (bit (l .loop .seen) (p .place .result)) 1 (sym (s .contains .ensures) ∙ c .before .if2 .left) in
     let b : bit (l .loop .seen) (p .place .result) ≡ 0 = omega arith in
     let more = seen-more (body t) (l .loop .seen) (l .loop .i) (l .loop .inv .1) (valid-at p) (rw (place-is p) at b) in
-    (omega arith, rw (c .set-bit .ensures, place-is p) more)
+    let within : p .place .result < 64 = omega (arith, below p) in
+    (omega arith, rw (c .insert .ensures ∙ inserted (l .loop .seen) (p .place .result) within, place-is p) more)
 
 returns-3 : tie.Need-returns-3 Inv-loop μ-loop
 returns-3 c =
@@ -134,9 +136,9 @@ in-47-spec =
     triple-requires
     returns
     place-requires
-    is-set-requires
+    contains-requires
     returns-2
-    set-bit-requires
+    insert-requires
     add-i
     loop-less
     loop-again

@@ -1,0 +1,9 @@
+pub mod SetLaws
+pub mod WordLaws
+pub mod DataLaws
+pub mod RefusalLaws
+pub mod CountingLaws
+pub mod ShownLaws
+pub mod BackLaws
+pub mod Theorems
+pub mod Vectors

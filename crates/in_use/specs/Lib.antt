@@ -1,0 +1,2 @@
+pub mod InUse
+pub mod Meaning
