@@ -258,6 +258,7 @@ fn run_refusals() {
         refusals::TIME,
         refusals::NOT_FINITE,
         refusals::NO_SATELLITE,
+        refusals::DATE,
     ];
     decimals(&all);
 }

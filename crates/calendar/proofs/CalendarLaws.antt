@@ -1,5 +1,5 @@
--- The calendar adds up: a common year has 365 days, a leap year 366, any 400 years in a row 146,097. And a date that exists is
--- within document 01's ranges of day and month.
+-- The calendar adds up: a common year has 365 days, a leap year 366, any 400 years in a row 146,097. And what it is
+-- for a date to exist: which days a month has, and that such a date is within document 01's ranges of day and month.
 use mathlib.Core.Bool.{Bool, true, false, cond, _&&_, _||_, and-eq-true-iff}
 use mathlib.Core.Path.{_≡_, refl, sym, ap, _∙_}
 use Prim.Native.Nat.{ℕ, zero, suc, _+_, _%_, _≤_, _<_}
@@ -85,6 +85,31 @@ month-0 : (y : ℕ) → daysIn 0 y ≡ 0
 unfolding daysIn
 month-0 y = refl
 
+pub december : (y : ℕ) → daysIn 12 y ≡ 31
+unfolding daysIn
+december y = refl
+
+-- each of the twelve months has a first day
+pub month-begins : (m y : ℕ) → 1 ≤ m → m ≤ 12 → 1 ≤ daysIn m y
+unfolding daysIn
+month-begins m y l h = rw (le-leb 1 m l, le-leb m 12 h) (by (eqb m 2) (leap y) (eqb m 4 || eqb m 6 || eqb m 9 || eqb m 11))
+  where
+    by : (a b c : Bool) → 1 ≤ cond a (cond b 29 28) (cond c 30 31)
+    by true true c = omega arith
+    by true false c = omega arith
+    by false b true = omega arith
+    by false b false = omega arith
+
+pub in-month : (d m y : ℕ) → dateExists d m y ≡ true → (1 ≤ d) × (d ≤ daysIn m y)
+unfolding dateExists
+in-month d m y e =
+    let t = and-eq-true-iff (leb 1 d) (leb d (daysIn m y)) .0 e in
+    (leb-true 1 d (t .0), leb-true d (daysIn m y) (t .1))
+
+pub is-there : (d m y : ℕ) → 1 ≤ d → d ≤ daysIn m y → dateExists d m y ≡ true
+unfolding dateExists
+is-there d m y l h = rw (le-leb 1 d l, le-leb d (daysIn m y) h)
+
 pub record Within (d m : ℕ) : Type 0 where
   pub first : 1 ≤ d
   pub last : d ≤ 31
@@ -92,20 +117,16 @@ pub record Within (d m : ℕ) : Type 0 where
   pub high : m ≤ 12
 
 pub date-within : (d m y : ℕ) → dateExists d m y ≡ true → Within d m
-unfolding dateExists
 date-within d m y e =
-    record { first = first; last = (let k = le-31 m y in let l = last in omega arith); low = low m last; high = high (leb m 12) refl }
+    record { first = there .0; last = (let k = le-31 m y in let t = there in omega arith); low = low m (there .1); high = high (leb m 12) refl }
   where
-    first : 1 ≤ d
-    first = leb-true 1 d (and-eq-true-iff (leb 1 d) (leb d (daysIn m y)) .0 e .0)
-
-    last : d ≤ daysIn m y
-    last = leb-true d (daysIn m y) (and-eq-true-iff (leb 1 d) (leb d (daysIn m y)) .0 e .1)
+    there : (1 ≤ d) × (d ≤ daysIn m y)
+    there = in-month d m y e
 
     low : (m : ℕ) → d ≤ daysIn m y → 1 ≤ m
-    low zero l = let z = month-0 y in let f = first in absurd (omega arith)
+    low zero l = let z = month-0 y in let t = there in absurd (omega arith)
     low (suc m) l = omega arith
 
     high : (t : Bool) → leb m 12 ≡ t → m ≤ 12
     high true q = leb-true m 12 q
-    high false q = let z = above-12 m y (leb-false m 12 q) in let f = first in let l = last in absurd (omega arith)
+    high false q = let z = above-12 m y (leb-false m 12 q) in let t = there in absurd (omega arith)

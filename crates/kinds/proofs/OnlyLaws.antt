@@ -107,7 +107,11 @@ test-4B d = tested 0x4B 42 free row-4B refl d
 pub judged-4B : (d : List ℕ) → content 0x4B d ≡ cond (eqb (length d) 42) 0 11
 judged-4B = in-order 0x4B 42 free row-4B refl
 
--- 47h is judged by its length, then by its fields
+-- 46h is judged by its length, then by its fields
+pub judged-46 : (d : List ℕ) → content 0x46 d ≡ cond (eqb (length d) 10) (cond (in46 d) 0 12) 11
+judged-46 = in-order 0x46 10 in46 row-46 refl
+
+-- so is 47h
 row-47 : rowIn table 0x47 ≡ some (only 0x47 168 in47)
 unfolding table rowIn
 row-47 = refl

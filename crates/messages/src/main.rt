@@ -1,12 +1,19 @@
 // Reads calls as hexadecimal text, a line each, and prints how the kinds without entries are decoded and encoded. A line that starts
 // with # is printed as it is. Any other is family, identifier, a field's number, a value, room in two bytes, low byte first, then data.
-// The family is 00 for the kinds without data, 01 for those of one byte or none, 02 for the offset from UTC, else the identifier of a
-// kind. The data of family 02 are a second in four bytes, a week in two, then those of a 4Bh; its fields are the bits of the offset.
+// The family is 00 for the kinds without data, 01 for those of one byte or none, 02 for the offset from UTC, 03 for a date rolled, 04 for
+// the time in UTC, else the identifier of a kind. The data of family 02 are a second in four bytes, a week in two, then those of a 4Bh;
+// its fields are the bits of the offset. Those of family 03 are a day, a month and a year in two bytes; its line has, each as refusal, day,
+// month and year, the day after and the day before by value, then in place, last the date rolled forward and back. Those of family 04 are
+// a 46h's; its fields are the second of the day and the date.
 //
 // The data are decoded, the field of this number (0: none) gets the value, and the fields are encoded into so many bytes of a buffer
 // of 5A; the families 01 and 20 encode this number and this value as their two fields. A call's line has family, identifier, the
 // refusal of the data and, where there is none, the fields, the wide ones first, signed ones last, FP fields as their bits; then the
 // refusal and the length of the encoding, and last the buffer up to four bytes past the room.
+use dates::Date;
+use dates::DateTime;
+use dates::Rolled;
+use dates::answer::Utc;
 use fields_4a::Ionosphere;
 use fields_4b::Scales;
 use fields_20::Satellite;
@@ -20,8 +27,10 @@ use fields_eb::GlonassTime;
 use octets::Written;
 use utc::answer::Offset;
 ghost use mathlib.Core.Bool.{not};
+ghost use mathlib.Core.Path.{_≡_};
 ghost use lib.Dec.{T};
 ghost use lib.Ieee.{isNan};
+ghost use Rattle.dates.specs.Dates.{forwardOf, backOf};
 
 fn number(n: u64) {
     io::write_all(1, b" ");
@@ -423,11 +432,77 @@ fn run_eb(d: &[u8], which: u8, value: u8, buf: &mut [u8]) {
     }
 }
 
+fn show_date(d: Date) {
+    octet(d.day);
+    octet(d.month);
+    half(d.year);
+}
+
+fn show_rolled(r: Rolled) {
+    octet(r.refusal);
+    let d = r.date;
+    show_date(d);
+}
+
+// The date lent to `roll_forward`, and what is left of it.
+fn forward(d: Date) -> Rolled
+    ensures { λ r. ⌜ r ≡ forwardOf d ⌝ }
+{
+    let mut date = d;
+    let refusal = dates::roll_forward(&mut date);
+    Rolled {
+        refusal: refusal,
+        date: date,
+    }
+}
+
+fn back(d: Date) -> Rolled
+    ensures { λ r. ⌜ r ≡ backOf d ⌝ }
+{
+    let mut date = d;
+    let refusal = dates::roll_back(&mut date);
+    Rolled {
+        refusal: refusal,
+        date: date,
+    }
+}
+
+fn run_dates(s: &[u8]) {
+    let d = Date {
+        day: octets::byte_at(s, 0),
+        month: octets::byte_at(s, 1),
+        year: numbers::u16_at(s, 2),
+    };
+    show_rolled(dates::day_after(d));
+    show_rolled(dates::day_before(d));
+    let next = forward(d);
+    show_rolled(next);
+    show_rolled(back(d));
+    let rolled = next.date;
+    show_rolled(back(rolled));
+}
+
+fn show_time(t: DateTime) {
+    octet(0);
+    word(t.second);
+    let d = t.date;
+    show_date(d);
+}
+
+fn run_utc(d: &[u8]) {
+    match dates::utc(d) {
+        Utc::Time(t) => show_time(t),
+        Utc::Refused(n) => octet(n),
+    }
+}
+
 fn run(family: u8, id: u8, d: &[u8], which: u8, value: u8, buf: &mut [u8]) {
     match family {
         0x00 => run_empty(id, d, buf),
         0x01 => run_one(id, d, which, value, buf),
         0x02 => run_offset(d),
+        0x03 => run_dates(d),
+        0x04 => run_utc(d),
         0x20 => run_20(d, which, value, buf),
         0x23 => run_23(d, which, value, buf),
         0x43 => run_43(d, which, value, buf),
@@ -474,7 +549,7 @@ fn line(s: &[u8]) {
 }
 
 fn main() {
-    let mut buf = io::large_buffer();
+    let mut buf = [0u8; 131072];
     let n = io::read_full(0, &mut buf);
     let s = &buf[..n];
     let mut at: usize = 0;

@@ -7,8 +7,8 @@ use native.Mathlib.Nat.{pow-suc, add-suc, zero-lt-suc, pow-le-pow-right}
 use native.Mathlib.Omega.{arith}
 use borrow.Author.Tests.{le-leb, lt-leb, leb-true, leb-false}
 use lib.Dec.{leb}
-use lib.ListN.{length, take, drop, getD}
-use lib.Seq.{drop-cons}
+use lib.ListN.{length, take, drop, getD, length-drop}
+use lib.Seq.{drop-cons, length-take-le, getD-take, getD-drop}
 use Rattle.numbers.specs.Number.{numberOf, bytesOf, numberAt}
 
 pub length-bytes : (n x : ℕ) → length (bytesOf n x) ≡ n
@@ -34,7 +34,7 @@ bytes-number (b ∷ s) h =
     let q : (b + 256 * numberOf s) / 256 ≡ numberOf s = omega arith in
     rw (m, q, bytes-number s (λ i k. h (suc i) (omega arith)))
 
-pub number-lt : (s : List ℕ) → ((i : ℕ) → i < length s → getD s i 0 < 256) → numberOf s < 256 ^ length s
+number-lt : (s : List ℕ) → ((i : ℕ) → i < length s → getD s i 0 < 256) → numberOf s < 256 ^ length s
 unfolding numberOf
 number-lt [] h = omega arith
 number-lt (b ∷ s) h =
@@ -50,6 +50,16 @@ number-in s at n h = rw (le-leb (at + n) (length s) h)
 pub number-out : (s : List ℕ) (at n : ℕ) → length s < at + n → numberAt s at n ≡ 0
 unfolding numberAt
 number-out s at n h = rw (lt-leb (at + n) (length s) h)
+
+-- a part of a list of bytes, and the number in it
+pub part-bytes : (s : List ℕ) (at n : ℕ) → ((i : ℕ) → i < length s → getD s i 0 < 256) → at + n ≤ length s
+    → (length (take n (drop at s)) ≡ n) × ((i : ℕ) → i < length (take n (drop at s)) → getD (take n (drop at s)) i 0 < 256)
+part-bytes s at n b h =
+    let l : length (take n (drop at s)) ≡ n = length-take-le n (drop at s) (rw (length-drop at s) (omega arith)) in
+    (l, λ i k. rw (getD-take n (drop at s) i 0 (omega arith), getD-drop at s i 0) (b (at + i) (omega arith)))
+
+pub part-lt : (s : List ℕ) (at n : ℕ) → ((i : ℕ) → i < length s → getD s i 0 < 256) → at + n ≤ length s → numberOf (take n (drop at s)) < 256 ^ n
+part-lt s at n b h = let p = part-bytes s at n b h in rw (p .0) at (number-lt (take n (drop at s)) (p .1))
 
 -- one byte is the number that it stands for
 past : (s : List ℕ) (at : ℕ) → length s ≤ at → getD s at 0 ≡ 0

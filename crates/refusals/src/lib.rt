@@ -50,3 +50,6 @@ pub const NOT_FINITE: u8 = 16;
 
 // A bit of a word of satellites is no satellite's.
 pub const NO_SATELLITE: u8 = 17;
+
+// There is no such date, or its year or the one rolled to is outside 1999 to 65,535.
+pub const DATE: u8 = 18;

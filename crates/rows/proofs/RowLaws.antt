@@ -11,11 +11,11 @@ use lib.Dec.{leb}
 use lib.IntN.{ℤ, pos, negsuc}
 use lib.ListN.{length, take, drop, getD, length-append, length-drop, take-append-drop}
 use lib.Pow.{pow-add}
-use lib.Seq.{drop-cons, drop-length, drop-drop, take-at, drop-at, getD-take, getD-drop, length-take-le}
+use lib.Seq.{drop-cons, drop-length, drop-drop, take-at, drop-at}
 use Rattle.numbers.specs.Number.{numberOf, bytesOf, numberAt}
 use Rattle.octets.specs.Placing.{placed}
 use Rattle.numbers.specs.Signed.{signed, unsigned}
-use Rattle.numbers.proofs.NumberLaws.{length-bytes, number-bytes, bytes-number, number-lt, number-in}
+use Rattle.numbers.proofs.NumberLaws.{length-bytes, number-bytes, bytes-number, number-in, part-bytes, part-lt}
 use Rattle.numbers.proofs.SignedLaws.{signed-unsigned, unsigned-signed}
 use Rattle.octets.proofs.PlacingLaws.{placed-nil, placed-more, placed-whole, length-placed}
 use Rattle.rows.specs.Layout.{Row, natural, integer, width, bits, Held, AllHeld, joined, laid, total, short, within, packs, packed}
@@ -226,12 +226,10 @@ joined-read [] at d e h = let z : at ≡ length d = sym (add-zero at) ∙ e in s
 joined-read (r ∷ rs) at d e h =
     let n = width r in
     let s : List ℕ = take n (drop at d) in
-    let l : length s ≡ n = length-take-le n (drop at d) (rw (length-drop at d) (omega arith)) in
-    let small : (i : ℕ) → i < length s → getD s i 0 < 256 =
-    λ i k. rw (getD-take n (drop at d) i 0 (omega arith), getD-drop at d i 0) (h (at + i) (omega arith)) in
+    let p = part-bytes d at n h (omega arith) in
     let b : numberAt d at n ≡ numberOf s = number-in d at n (omega arith) in
-    let lt : numberOf s < 256 ^ n = rw l at (number-lt s small) in
-    let one : bytesOf n (numberOf s) ≡ s = rw l at (bytes-number s small) in
+    let lt = part-lt d at n h (omega arith) in
+    let one : bytesOf n (numberOf s) ≡ s = rw (p .0) at (bytes-number s (p .1)) in
     let t : joined (readRows rs (at + n) d) ≡ drop n (drop at d) = joined-read rs (at + n) d (omega arith) h ∙ sym (drop-drop n at d) in
     rw (b, again-bytes r (numberOf s) lt, one, t) (take-append-drop n (drop at d))
 

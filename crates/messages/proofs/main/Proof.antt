@@ -11,9 +11,6 @@ Inv-loop n s at₀ at = (at ≤ length s)
 abbrev μ-loop : tie.MeasureT-loop
 μ-loop n s at₀ at = length s - at
 
-large-buffer-requires : tie.Need-large-buffer-requires Inv-loop μ-loop
-large-buffer-requires c κs = tt
-
 slice-aggregate-read-full : tie.Need-slice-aggregate-read-full Inv-loop μ-loop
 slice-aggregate-read-full c = search needs
 
@@ -65,7 +62,6 @@ main-spec =
     (tie.spec
     Inv-loop
     μ-loop
-    large-buffer-requires
     slice-aggregate-read-full
     read-full-requires
     array-share-prefix-buf

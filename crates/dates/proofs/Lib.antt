@@ -1,0 +1,11 @@
+pub mod RollLaws
+pub mod DayLaws
+pub mod NumberLaws
+pub mod InPlace
+pub mod ZoneLaws
+pub mod FieldLaws
+pub mod UtcLaws
+pub mod Theorems
+pub mod CountLaws
+pub mod UtcTheorems
+pub mod Vectors
