@@ -259,6 +259,7 @@ fn run_refusals() {
         refusals::NOT_FINITE,
         refusals::NO_SATELLITE,
         refusals::DATE,
+        refusals::LIST,
     ];
     decimals(&all);
 }

@@ -53,3 +53,6 @@ pub const NO_SATELLITE: u8 = 17;
 
 // There is no such date, or its year or the one rolled to is outside 1999 to 65,535.
 pub const DATE: u8 = 18;
+
+// A list of messages is too long, or an entry of it is cut short.
+pub const LIST: u8 = 19;

@@ -2,11 +2,12 @@
 use mathlib.Core.Path.{_≡_, refl, ap}
 use mathlib.Core.Bool.{Bool, true, false, cond}
 use mathlib.Core.List.{List, [], _∷_, _++_}
-use Prim.Native.Nat.{ℕ, suc, _+_, _≤_}
+use mathlib.Core.Logic.{_↔_}
+use Prim.Native.Nat.{ℕ, zero, suc, _+_, _≤_, _<_}
 use native.Mathlib.Omega.{arith}
-use borrow.Author.Tests.{eq-eqb, ne-eqb}
+use borrow.Author.Tests.{eq-eqb, ne-eqb, eqb-true, eqb-false}
 use lib.Dec.{eqb}
-use lib.ListN.{length}
+use lib.ListN.{length, getD}
 use Rattle.stuffing.specs.Stuffing.{DLE, stuffed, dles}
 
 pub stuffed-nil : stuffed [] ≡ []
@@ -43,6 +44,10 @@ length-stuffed (b ∷ s) = go (eqb b DLE) (length-stuffed s)
     go true e = omega arith
     go false e = omega arith
 
+pub dles-nil : dles [] ≡ 0
+unfolding dles
+dles-nil = refl
+
 pub dles-append : (a b : List ℕ) → dles (a ++ b) ≡ dles a + dles b
 unfolding dles
 dles-append [] b = omega arith
@@ -64,3 +69,35 @@ dles-le (b ∷ s) = go (eqb b DLE) (dles-le s)
     go : (t : Bool) → dles s ≤ length s → cond t 1 0 + dles s ≤ suc (length s)
     go true h = omega arith
     go false h = omega arith
+
+-- none of the bytes is 10h exactly if none is counted, every one exactly if all are
+pub dles-none : (s : List ℕ) → dles s ≡ 0 ↔ ((i : ℕ) → i < length s → getD s i 0 ≡ DLE → ⊥)
+dles-none s = (none s, zero-of s)
+  where
+    none : (s : List ℕ) → dles s ≡ 0 → (i : ℕ) → i < length s → getD s i 0 ≡ DLE → ⊥
+    none [] e i h d = omega arith
+    none (b ∷ s) e zero h d = omega (arith, dles-append (b ∷ []) s, dles-dle b d)
+    none (b ∷ s) e (suc i) h d = none s (omega (arith, dles-append (b ∷ []) s)) i (omega arith) d
+
+    zero-of : (s : List ℕ) → ((i : ℕ) → i < length s → getD s i 0 ≡ DLE → ⊥) → dles s ≡ 0
+    zero-of [] f = dles-nil
+    zero-of (b ∷ s) f =
+        omega
+        (arith, dles-append (b ∷ []) s, dles-other b (f 0 (omega arith)), zero-of s (λ i h. f (suc i) (omega arith)))
+
+pub dles-all : (s : List ℕ) → dles s ≡ length s ↔ ((i : ℕ) → i < length s → getD s i 0 ≡ DLE)
+dles-all s = (all s, length-of s)
+  where
+    all : (s : List ℕ) → dles s ≡ length s → (i : ℕ) → i < length s → getD s i 0 ≡ DLE
+    all [] e i h = absurd (omega arith)
+    all (b ∷ s) e zero h = first (eqb b DLE) refl
+      where
+        first : (t : Bool) → eqb b DLE ≡ t → b ≡ DLE
+        first true p = eqb-true b DLE p
+        first false p = absurd (omega (arith, dles-append (b ∷ []) s, dles-other b (eqb-false b DLE p), dles-le s))
+    all (b ∷ s) e (suc i) h = all s (omega (arith, dles-append (b ∷ []) s, dles-le s, dles-le (b ∷ []))) i (omega arith)
+
+    length-of : (s : List ℕ) → ((i : ℕ) → i < length s → getD s i 0 ≡ DLE) → dles s ≡ length s
+    length-of [] f = dles-nil
+    length-of (b ∷ s) f =
+        omega (arith, dles-append (b ∷ []) s, dles-dle b (f 0 (omega arith)), length-of s (λ i h. f (suc i) (omega arith)))

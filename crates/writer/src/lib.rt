@@ -8,18 +8,25 @@ ghost use lib.ListN.{length};
 ghost use Rattle.stuffing.specs.Stuffing.{stuffed};
 ghost use Rattle.octets.specs.Placing.{placed};
 ghost use Rattle.line.specs.Frame.{modeOf, sumField, frame};
-ghost use Rattle.writer.specs.Writing.{frameWritten, frameFilled};
+ghost use Rattle.writer.specs.Writing.{lengthOnLine, frameWritten, frameFilled};
 
-// The length of a message's frame, which is the same whatever its identifier. The bound keeps the sum from wrapping.
-fn frame_length(mode: u8, body: &[u8]) -> usize
-    requires { ⌜ length (now body) ≤ 1024 ⌝ }
-    ensures { λ r. ⌜ ((id : ℕ) → r ≡ length (frame (modeOf mode) id (now (body .entry)))) ⌝ }
+// The length of the frame of a message with this data, which is the same whatever its identifier; 0 of a mode above 1, and of more data
+// than a frame holds.
+pub fn frame_length(mode: u8, body: &[u8]) -> usize
+    ensures { λ r. ⌜ ((id : ℕ) → r ≡ lengthOnLine mode id (now (body .entry))) ⌝ }
 {
-    let n = body.len() + stuffing::count_dle(body) + 4;
-    if mode == 0 {
-        return n;
+    if 1 < mode {
+        return 0;
     }
-    n + 4
+    if Reader::CAPACITY < body.len() {
+        return 0;
+    }
+    let dles = stuffing::count_dle(body);
+    let n = body.len() + dles;
+    if mode == 0 {
+        return n + 4;
+    }
+    n + 8
 }
 
 // Puts a byte of data at a place, a DLE twice, and returns the place after it.

@@ -1,30 +1,55 @@
--- `frame_length` meets its contract by the law of the frame's length.
+-- `frame_length` meets its contract by the laws of the frame's length.
+use mathlib.Core.Path.{sym}
 use native.Mathlib.Omega.{arith}
+use borrow.Author.Needs.{needs}
 use Rattle.stuffing.proofs.StuffingLaws.{dles-le}
-use Rattle.writer.proofs.FrameLength.{frame-plain, frame-summed, not-plain}
+use Rattle.writer.proofs.FrameLength.{no-mode, too-long, plain-on-line, summed-on-line}
 use Rattle.writer.proofs.frame_length.Statement.{statement}
 use Rattle.writer.proofs.frame_length.Tie as tie
 
-count-dle-requires : tie.Need-count-dle-requires
-count-dle-requires c κs = tt
-
-add-n : tie.Need-add-n
-add-n c = omega (arith, dles-le (c .before .before .args .body .now))
-
-add-n-2 : tie.Need-add-n-2
-add-n-2 c = omega (arith, dles-le (c .before .before .args .body .now))
-
 returns : tie.Need-returns
-returns c id = rw (c .if1 .taken) (omega (arith, frame-plain id (c .before .before .before .args .body .now), c .before .count-dle .ensures))
-
-add-result : tie.Need-add-result
-add-result c = omega (arith, dles-le (c .before .before .before .args .body .now))
+returns c id = let a = c .before .before .args in sym (no-mode (a .mode) id (a .body .now) (c .if1 .taken))
 
 returns-2 : tie.Need-returns-2
 returns-2 c id =
     let a = c .before .before .before .args in
-    rw (not-plain (a .mode) (c .if1 .left)) (omega (arith, frame-summed id (a .body .now), c .before .count-dle .ensures))
+    sym (too-long (a .mode) id (a .body .now) (c .before .if1 .left) (c .if2 .taken))
+
+count-dle-requires : tie.Need-count-dle-requires
+count-dle-requires c κs = search needs
+
+add-n : tie.Need-add-n
+add-n c = omega (arith, dles-le (c .before .before .before .before .args .body .now))
+
+add-result : tie.Need-add-result
+add-result c = omega (arith, dles-le (c .before .before .before .before .before .args .body .now))
+
+returns-3 : tie.Need-returns-3
+returns-3 c id =
+    let a = c .before .before .before .before .before .args in
+    omega (arith, plain-on-line (a .mode) id (a .body .now) (c .if3 .taken) (c .before .before .if2 .left), c .before .count-dle .ensures)
+
+add-result-2 : tie.Need-add-result-2
+add-result-2 c = omega (arith, dles-le (c .before .before .before .before .before .args .body .now))
+
+returns-4 : tie.Need-returns-4
+returns-4 c id =
+    let a = c .before .before .before .before .before .args in
+    omega (
+      arith,
+      summed-on-line (a .mode) id (a .body .now) (c .if3 .left) (c .before .before .before .if1 .left) (c .before .before .if2 .left),
+      c .before .count-dle .ensures,
+    )
 
 pub frame-length-spec : {M : Type 1} → statement M
 frame-length-spec =
-    tie.close (tie.spec count-dle-requires add-n add-n-2 returns add-result returns-2)
+    tie.close
+    (tie.spec
+    returns
+    returns-2
+    count-dle-requires
+    add-n
+    add-result
+    returns-3
+    add-result-2
+    returns-4)

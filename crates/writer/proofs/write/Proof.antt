@@ -1,6 +1,5 @@
 -- `write` meets its contract: each return is a case of the laws.
 use mathlib.Core.Path.{_≡_, sym, ap, _∙_}
-use Prim.Native.Nat.{_≤_, _<_}
 use native.Mathlib.Omega.{arith}
 use borrow.Author.Needs.{needs}
 use lib.ListN.{length}
@@ -8,6 +7,7 @@ use Rattle.kinds.specs.Kinds.{content}
 use Rattle.kinds.proofs.ContentLaws.{content-length}
 use Rattle.octets.specs.Delivery.{refused, accepted}
 use Rattle.line.specs.Frame.{modeOf, frame}
+use Rattle.writer.proofs.FrameLength.{length-on-line}
 use Rattle.writer.proofs.WritingLaws.{wrong-mode, wrong-content, too-short, all-written}
 use Rattle.writer.proofs.write.Statement.{statement}
 use Rattle.writer.proofs.write.Tie as tie
@@ -33,21 +33,26 @@ returns-2 c =
     (ap refused e ∙ w .0, w .1)
 
 frame-length-requires : tie.Need-frame-length-requires
-frame-length-requires c κs = content-length _ _ (judged c)
+frame-length-requires c κs = search needs
+
+-- so that its data fits into a frame, and the length is that of its frame
+long : (c : tie.After-frame-length)
+    → let a = c .before .before .before .before .before .before .args in
+    c .frame-length .result ≡ length (frame (modeOf (a .mode)) (a .id) (a .body .now))
+long c =
+    let a = c .before .before .before .before .before .before .args in
+    c .frame-length .ensures (a .id)
+    ∙ length-on-line (a .mode) (a .id) (a .body .now) (c .before .before .before .if1 .left) (content-length (a .id) (a .body .now) (judged (c .before)))
 
 returns-3 : tie.Need-returns-3
 returns-3 c =
     let f = c .before in
     let m = f .before .before .before in
     let a = m .before .before .before .args in
-    let short : length (a .buf .now) < length (frame (modeOf (a .mode)) (a .id) (a .body .now)) = rw (f .frame-length .ensures (a .id)) at (c .if3 .taken) in
-    too-short _ _ _ _ (m .if1 .left) (judged (f .before)) short
+    too-short (a .mode) (a .id) (a .body .now) (a .buf .now) (m .if1 .left) (judged (f .before)) (omega (arith, long f, c .if3 .taken))
 
 fill-requires : tie.Need-fill-requires
-fill-requires c κs =
-    let f = c .before .before in
-    let a = f .before .before .before .before .before .before .args in
-    rw (f .frame-length .ensures (a .id)) at (c .before .if3 .left)
+fill-requires c κs = omega (arith, long (c .before .before), c .before .if3 .left)
 
 same-length : tie.Need-same-length
 same-length c = search needs
@@ -59,10 +64,8 @@ returns-4 c =
     let f = t .before in
     let m = f .before .before .before in
     let a = m .before .before .before .args in
-    let n = f .frame-length .ensures (a .id) in
-    let room : length (frame (modeOf (a .mode)) (a .id) (a .body .now)) ≤ length (a .buf .now) = rw n at (t .if3 .left) in
-    let all = all-written (a .mode) (a .id) (a .body .now) (a .buf .now) (m .if1 .left) (judged (f .before)) room in
-    (ap accepted n ∙ all .0, w .fill .ensures ∙ all .1)
+    let all = all-written (a .mode) (a .id) (a .body .now) (a .buf .now) (m .if1 .left) (judged (f .before)) (omega (arith, long f, t .if3 .left)) in
+    (ap accepted (long f) ∙ all .0, w .fill .ensures ∙ all .1)
 
 pub write-spec : {M : Type 1} → statement M
 write-spec =
