@@ -22,6 +22,7 @@
 // - 0F is_leap, days_in, is_date: the bytes are day, month and year
 //
 // A call's line has its number and its answers, in this order; where it fills a buffer, that is last, up to four bytes past the room.
+#![tactic(auto)]
 use latest::Latest;
 use record::{Head, Reader};
 

@@ -19,6 +19,7 @@
 // - 07, a header, a width and a place in a byte each, then data. The line has whether its columns are within a buffer of 64 bytes of AAh from
 //   that place on (1, else 0) and the digest of the buffer, then the same of its rows.
 // All numbers are decimal.
+#![tactic(auto)]
 use journal::Entry;
 use octets::Written;
 

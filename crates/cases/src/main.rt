@@ -16,6 +16,7 @@
 // the record's mode, identifier, c1, c2, length and standing readings: they are as they were. In 06 two lines come before the calls': the
 // refusal of taking over, the record's place and counts; and that second line. The writer's line has its refusal, the length, and the
 // buffer up to four bytes past the room. Identifiers, c1, c2 and data are in hexadecimal.
+#![tactic(auto)]
 use latest::Latest;
 use record::{Answer, Event, Head, Reader};
 use takeover::{Head32, Reader32};

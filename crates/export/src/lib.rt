@@ -2,6 +2,7 @@
 //
 // A call that fills a buffer returns one number: the length, or where it is refused 2^64 less the refusal's number, which a caller
 // who reads the number as signed sees as that number with a minus.
+#![tactic(auto)]
 ghost use Rattle.std.specs.Prelude.{◌≡◌};
 ghost use Rattle.octets.specs.Delivery.{written_of, filled_of};
 ghost use Rattle.kinds.specs.Kinds.{content};

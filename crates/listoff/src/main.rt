@@ -1,4 +1,5 @@
 // Lists the events of the bytes on standard input, whose frames have no checksum.
+#![tactic(auto)]
 fn main() {
     streaming::list_input(0);
 }

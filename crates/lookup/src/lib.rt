@@ -1,4 +1,5 @@
 // Lookup of a satellite in 52h data.
+#![tactic(auto)]
 ghost use Rattle.std.specs.Prelude.{◌≡◌};
 ghost use Rattle.lookup.specs.Lookup.{found_in};
 

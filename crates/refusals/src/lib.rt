@@ -1,4 +1,5 @@
 // The numbers by which calls refuse: one for each question of document 01, in the order in which they are asked; from 14 on document 02's.
+#![tactic(auto)]
 
 // The mode is neither 0 nor 1.
 pub const MODE: u8 = 1;

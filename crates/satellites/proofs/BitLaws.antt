@@ -11,8 +11,8 @@ use lib.Pow.{shr-shr}
 use lib.Bits.{bit_or, or_shr, or_mod, or_zero_l, or_zero_r}
 use Rattle.satellites.specs.Sets.{bit, with_bit}
 
-bit_or : (a b p : ℕ) → bit (bit_or a b) p ≡ bit_or (bit a p) (bit b p)
-bit_or a b p = ap (λ (t : ℕ). t % 2) (or_shr a b p) ∙ or_mod (a / 2 ^ p) (b / 2 ^ p) 1
+bit_or_lem : (a b p : ℕ) → bit (bit_or a b) p ≡ bit_or (bit a p) (bit b p)
+bit_or_lem a b p = ap (λ (t : ℕ). t % 2) (or_shr a b p) ∙ or_mod (a / 2 ^ p) (b / 2 ^ p) 1
 
 bit_half : (a p : ℕ) → bit (a / 2) p ≡ bit a (suc p)
 bit_half a p = ap (λ (t : ℕ). t % 2) (shr-shr a 1 p ∙ ap (λ (k : ℕ). a / 2 ^ k) (one-add p))
@@ -32,7 +32,7 @@ bit_pow (suc q) (suc p) =
 -- a bit that is set is 1, and no other one changes
 pub bit_with : (w q p : ℕ) → bit (with_bit w q) p ≡ cond (eqb q p) 1 (bit w p)
 unfolding with_bit
-bit_with w q p = bit_or w (2 ^ q) p ∙ ap (bit_or (bit w p)) (bit_pow q p) ∙ go (eqb q p) (bit w p) (omega arith)
+bit_with w q p = bit_or_lem w (2 ^ q) p ∙ ap (bit_or (bit w p)) (bit_pow q p) ∙ go (eqb q p) (bit w p) (omega arith)
   where
     go : (t : Bool) (x : ℕ) → x ≤ 1 → bit_or x (cond t 1 0) ≡ cond t 1 x
     go true zero h = or_zero_l 1

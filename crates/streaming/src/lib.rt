@@ -1,4 +1,5 @@
 // Lists standard input as it comes in: what the two programs do. The lines of each read are written before the next.
+#![tactic(auto)]
 ghost use Rattle.std.specs.Prelude.{true, ◌≡◌, ◌≤◌, length};
 ghost use Rattle.libc.specs.Io.{Moved};
 ghost use Rattle.record.specs.View.{view};

@@ -1,4 +1,5 @@
 // The byte 10h that stuffing doubles.
+#![tactic(auto)]
 ghost use Rattle.std.specs.Prelude.{◌≡◌};
 ghost use Rattle.stuffing.specs.Stuffing.{dles, four_plain};
 

@@ -1,4 +1,5 @@
 // Records of readers that counted in 32 bits, and the call that takes one over.
+#![tactic(auto)]
 ghost use Rattle.takeover.specs.Takeover.{TakeOverPost};
 
 use latest::Latest;

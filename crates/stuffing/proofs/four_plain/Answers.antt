@@ -1,0 +1,31 @@
+-- `stuffing::four_plain` meets its contract.
+use mathlib.Core.Bool.{false, ◌&&◌}
+use mathlib.Core.List.{List}
+use mathlib.Core.Path.{◌≡◌}
+use Prim.Native.Nat.{ℕ, ◌+◌, ◌≤◌, ◌<◌}
+use native.Mathlib.Omega.{arith}
+use borrow.Author.Tests.{lt-leb, le-leb}
+use lib.ListN.{length, get_or}
+use Rattle.stuffing.specs.Stuffing.{other, four_plain}
+use Rattle.stuffing.proofs.four_plain.Goals as goal
+
+-- `stuffing::four_plain` meets its contract.
+short : (s : List ℕ) (i : ℕ) → length s < i + 4 → false ≡ four_plain s i
+unfolding four_plain
+short s i l = rw (lt-leb (i + 4) (length s) l)
+
+long : (s : List ℕ) (i : ℕ) → i + 4 ≤ length s
+    → (((other (get_or s i 0) && other (get_or s (i + 1) 0)) && other (get_or s (i + 2) 0)) && other (get_or s (i + 3) 0)) ≡ four_plain s i
+unfolding four_plain
+long s i l = rw (le-leb (i + 4) (length s) l)
+
+pub returns-then-s-lt4 : goal.returns-then-s-lt4
+returns-then-s-lt4 c = short c.args.s.now c.args.at (omega arith)
+
+pub returns-then-s-at : goal.returns-then-s-at
+returns-then-s-at c = short c.args.s.now c.args.at (omega arith)
+
+pub returns : goal.returns
+returns c =
+    let x = c.args in
+    long x.s.now x.at (omega arith)
