@@ -10,7 +10,7 @@ ghost use Rattle.batch.specs.Times.{time_of, time_for};
 pub const LIMIT: usize = 65536;
 
 // An entry of a list: a refusal, or 0 with the identifier and the length of the data.
-#[derive(Drop)]
+#[derive(Clone, Copy)]
 pub struct Header {
     pub refusal: u8,
     pub id: u8,
@@ -18,7 +18,7 @@ pub struct Header {
 }
 
 // What a list takes on the line: a refusal, or 0 with the bytes and the bits.
-#[derive(Drop)]
+#[derive(Clone, Copy)]
 pub struct LineTime {
     pub refusal: u8,
     pub bytes: usize,

@@ -83,7 +83,7 @@ pub fn message(id: u8, body: &[u8]) -> u16
 }
 
 // The two bytes of a checksum, as they stand on the line: c1 is the low one.
-#[derive(Drop)]
+#[derive(Clone, Copy)]
 pub struct SumBytes {
     pub c1: u8,
     pub c2: u8,

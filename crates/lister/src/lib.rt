@@ -15,7 +15,7 @@ use octets::Written;
 use record::{Count, Event, InPlace, Reader};
 
 // What a part of a listing took and wrote.
-#[derive(Drop)]
+#[derive(Clone, Copy)]
 pub struct Part {
     pub reader: Reader,
     pub refusal: u8,

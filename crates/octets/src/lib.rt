@@ -6,7 +6,7 @@ ghost use Rattle.octets.specs.Placing.{fits, placed};
 ghost use Rattle.octets.specs.Delivery.{written_of, filled_of};
 
 // What writing into a lent buffer answers: a refusal, or 0 and the bytes written.
-#[derive(Drop)]
+#[derive(Clone, Copy)]
 pub struct Written {
     pub refusal: u8,
     pub length: usize,

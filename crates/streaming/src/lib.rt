@@ -11,7 +11,7 @@ use listing::LONGEST_TOTAL;
 use record::Reader;
 
 // The reader after a chunk, 3 where a byte of it can't be counted, and whether its lines were written.
-#[derive(Drop)]
+#[derive(Clone, Copy)]
 pub struct Chunk {
     pub reader: Reader,
     pub refusal: u8,
@@ -20,7 +20,7 @@ pub struct Chunk {
 
 // The same after the last chunk, with how many bytes the reads brought, and what the last one answered. Where a byte of the last can't
 // be counted, its bytes are `rest`, since 64 bits may not hold the sum; else there are none.
-#[derive(Drop)]
+#[derive(Clone, Copy)]
 pub struct Reads {
     pub chunk: Chunk,
     pub read: usize,
@@ -29,7 +29,7 @@ pub struct Reads {
 }
 
 // How a listing ended: the same, with the total. `written` says whether it was written too.
-#[derive(Drop)]
+#[derive(Clone, Copy)]
 pub struct Ended {
     pub reader: Reader,
     pub refusal: u8,
