@@ -1,6 +1,6 @@
 -- `hexlines::line_end` meets its contract. The loop's invariant: the line's end is as far as the end of what is still to come.
-use mathlib.Core.Path.{◌≡◌, refl, ap, ◌∙◌}
-use Prim.Native.Nat.{suc, ◌+◌, ◌-◌, ◌≤◌, ◌<◌}
+use mathlib.Core.Path.{◌≡◌, ap, ◌∙◌}
+use Prim.Native.Nat.{suc, ◌+◌, ◌≤◌, ◌<◌}
 use native.Mathlib.Numerals.{add-one}
 use native.Mathlib.Omega.{arith}
 use lib.ListN.{length, drop, get_or, drop_of_length-le}
@@ -15,7 +15,7 @@ returns-then-s-at-eq10 c =
     let at = c.loop-at.at in
     let h : at < length s = omega arith in
     let e : line_length (drop at s) ≡ 0 = ap line_length (drop-cons s at 0 h) ∙ line_end (get_or s at 0) (drop (suc at) s) c.if-s-at-eq10.true in
-    (omega arith, (omega arith, omega arith))
+    record { value = omega arith; lower_bound = (omega arith, omega arith) }
 
 pub loop-at-preserved : goal.loop-at-preserved
 loop-at-preserved c =
@@ -32,4 +32,4 @@ returns c =
     let at = c.loop-at.at in
     let h : length s ≤ at = omega arith in
     let e : line_length (drop at s) ≡ 0 = ap line_length (drop_of_length-le s h) ∙ line_nil in
-    (omega arith, (omega arith, omega arith))
+    record { value = omega arith; lower_bound = (omega arith, omega arith) }

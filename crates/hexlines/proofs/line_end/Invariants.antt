@@ -1,12 +1,8 @@
 -- `hexlines::line_end` meets its contract. The loop's invariant: the line's end is as far as the end of what is still to come.
-use mathlib.Core.Path.{◌≡◌, refl, ap, ◌∙◌}
-use Prim.Native.Nat.{suc, ◌+◌, ◌-◌, ◌≤◌, ◌<◌}
-use native.Mathlib.Numerals.{add-one}
-use native.Mathlib.Omega.{arith}
-use lib.ListN.{length, drop, get_or, drop_of_length-le}
-use lib.Seq.{drop-cons}
+use mathlib.Core.Path.{◌≡◌}
+use Prim.Native.Nat.{◌+◌, ◌-◌, ◌≤◌}
+use lib.ListN.{length, drop}
 use Rattle.hexlines.specs.Lines.{line_length}
-use Rattle.hexlines.proofs.LineLaws.{line_nil, line_end, line_more}
 use Rattle.hexlines.proofs.line_end.Given as goal
 
 -- `hexlines::line_end` meets its contract. The loop's invariant: the line's end is as far as the end of what is still to come.

@@ -1,10 +1,10 @@
 -- `hexlines::parse` meets its contract. The loop's invariant: what the digits still to be read give, put after the bytes stored,
 use mathlib.Core.Path.{◌≡◌, ap, ◌∙◌}
-use Prim.Native.Nat.{ℕ, ◌+◌, ◌-◌, ◌*◌, ◌≤◌, ◌<◌}
+use Prim.Native.Nat.{ℕ, ◌+◌, ◌*◌, ◌≤◌, ◌<◌}
 use native.Mathlib.Omega.{arith}
 use lib.ListN.{length, get_or, set}
 use Rattle.hexlines.specs.Lines.{digit_of}
-use Rattle.hexlines.proofs.ByteLaws.{Left, left_all, left_more, left_read, left_full}
+use Rattle.hexlines.proofs.ByteLaws.{Left, left_more, left_read, left_full}
 use Rattle.hexlines.proofs.parse.Goals as goal
 use Rattle.hexlines.proofs.parse.Goals.{After-octet}
 
@@ -24,13 +24,15 @@ stored c =
 pub returns-then-out-n : goal.returns-then-out-n
 returns-then-out-n c =
     let m : length c.args.out.now ≤ c.loop-i.n = omega (arith, c.loop-i.invariant.1.same) in
-    left_full _ _ _ _ _ c.loop-i.invariant.1 m
+    let w = left_full _ _ _ _ _ c.loop-i.invariant.1 m in
+    record { value = w.0; upper_bound = w.1 }
 
 pub returns-then-s-i-lt2 : goal.returns-then-s-i-lt2
 returns-then-s-i-lt2 c =
     let s = c.args.s.now in
     let h : length s ≤ c.loop-i.i + 2 = omega arith in
-    left_read _ _ _ _ _ (stored (goal.at.returns-then-s-i-lt2 c).After-octet) h
+    let w = left_read _ _ _ _ _ (stored (goal.at.returns-then-s-i-lt2 c).After-octet) h in
+    record { value = w.0; upper_bound = w.1 }
 
 pub loop-i-preserved : goal.loop-i-preserved
 loop-i-preserved c = (omega arith, stored (goal.at.loop-i-preserved c).After-octet)
@@ -39,4 +41,5 @@ pub returns : goal.returns
 returns c =
     let s = c.args.s.now in
     let h : length s ≤ c.loop-i.i = omega arith in
-    left_read _ _ _ _ _ c.loop-i.invariant.1 h
+    let w = left_read _ _ _ _ _ c.loop-i.invariant.1 h in
+    record { value = w.0; upper_bound = w.1 }

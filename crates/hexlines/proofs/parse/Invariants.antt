@@ -1,11 +1,8 @@
 -- `hexlines::parse` meets its contract. The loop's invariant: what the digits still to be read give, put after the bytes stored,
 -- makes the whole.
-use mathlib.Core.Path.{◌≡◌, ap, ◌∙◌}
-use Prim.Native.Nat.{ℕ, ◌+◌, ◌-◌, ◌*◌, ◌≤◌, ◌<◌}
-use native.Mathlib.Omega.{arith}
-use lib.ListN.{length, get_or, set}
-use Rattle.hexlines.specs.Lines.{digit_of}
-use Rattle.hexlines.proofs.ByteLaws.{Left, left_all, left_more, left_read, left_full}
+use Prim.Native.Nat.{◌-◌, ◌≤◌}
+use lib.ListN.{length}
+use Rattle.hexlines.proofs.ByteLaws.{Left}
 use Rattle.hexlines.proofs.parse.Given as goal
 
 -- `hexlines::parse` meets its contract. The loop's invariant: what the digits still to be read give, put after the bytes stored,
