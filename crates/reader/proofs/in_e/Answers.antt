@@ -1,8 +1,7 @@
 -- `reader::in_e` meets its contract: the table in E.
 use mathlib.Core.Path.{◌≡◌, refl, sym, ap, ◌∙◌, subst}
-use Prim.Native.Nat.{ℕ, ◌+◌, ◌-◌}
+use Prim.Native.Nat.{ℕ, ◌+◌}
 use native.Mathlib.Omega.{arith}
-use borrow.Author.Rules.{rules}
 use lib.ListN.{take}
 use Rattle.line.specs.Frame.{mode_of}
 use Rattle.line.specs.Table.{pending}
@@ -20,8 +19,7 @@ use Rattle.reader.proofs.Rows.{in_place, steps_went, steps_refused}
 use mathlib.Core.List.{List}
 use Rattle.line.specs.Frame.{Mode}
 use Rattle.line.proofs.Reading.{is}
-use Rattle.reader.proofs.in_e.Statement.{statement}
-use Rattle.reader.proofs.in_e.Tie as tie
+use Rattle.reader.proofs.in_e.Goals as goal
 
 -- a byte that is no DLE, in E
 E-other : (m : Mode) (id : ℕ) (d : List ℕ) (c1 c2 b : ℕ) → (b ≡ 16 → ⊥)
@@ -34,34 +32,25 @@ E-other m id d c1 c2 b n = by (class_of b) refl
     by sum e = is m (E id d c1 c2) b e refl
     by other e = is m (E id d c1 c2) b e refl
 
-go-requires : tie.Need-go-requires
-go-requires c κs = search rules
-
-shut-requires : tie.Need-shut-requires
-shut-requires c κs = search rules
-
-returns : tie.Need-returns
+pub returns-then-b-eq-DLE : goal.returns-then-b-eq-DLE
 unfolding place_of
-returns c k a w h =
-    let x = c.before.before.args in
-    let p = c.before.before.requires in
+returns-then-b-eq-DLE c k a w h =
+    let x = c.args in
+    let p = c.requires in
     subst (λ (t : Moved). Moves k x.m a a x.b x.at x.n t) (sym c.go.ensures)
-    (steps_went k x.m a x.b x.at x.n p.0.0 p.1 x.m.c1 x.m.c2 7
+    (steps_went k x.m a x.b x.at x.n p.le_at.0 p.fits x.m.c1 x.m.c2 7
     (ED x.m.id (take x.m.len a) x.m.c1 x.m.c2)
-    (row_at (mode_of k) x.b (in_place x.m a 6 p.0.2) (is_dle x.b c.before.if1.true) refl) refl (omega arith) h)
+    (row_at (mode_of k) x.b (in_place x.m a 6 p.le_at.2) (is_dle x.b c.if-b-eq-DLE.true) refl) refl (omega arith) h)
 
-returns-2 : tie.Need-returns-2
+pub returns-else-b-eq-DLE : goal.returns-else-b-eq-DLE
 unfolding place_of
-returns-2 c k a w h =
-    let x = c.before.before.args in
-    let p = c.before.before.requires in
-    let here = in_place x.m a 6 p.0.2 in
+returns-else-b-eq-DLE c k a w h =
+    let x = c.args in
+    let p = c.requires in
+    let here = in_place x.m a 6 p.le_at.2 in
     subst (λ (t : Moved). Moves k x.m a a x.b x.at x.n t) (sym c.shut.ensures)
-    (steps_refused k x.m a x.b x.at x.n p.0.0 p.1 8
+    (steps_refused k x.m a x.b x.at x.n p.le_at.0 p.fits 8
     (ap (λ s. next (mode_of k) s x.b) here
-    ∙ E-other (mode_of k) x.m.id (take x.m.len a) x.m.c1 x.m.c2 x.b c.before.if1.false
+    ∙ E-other (mode_of k) x.m.id (take x.m.len a) x.m.c1 x.m.c2 x.b c.if-b-eq-DLE.false
     ∙ ap (λ s. refuse 8 x.m.id (pending s + 1)) (sym here))
-    (omega (arith, p.0.3)) h)
-
-pub in-e-spec : {M : Type 1} → statement M
-in-e-spec = tie.close (tie.spec go-requires shut-requires returns returns-2)
+    (omega (arith, p.le_at.3)) h)
