@@ -15,7 +15,7 @@ returns-then-s-at-eq10 c =
     let at = c.loop-at.at in
     let h : at < length s = omega arith in
     let e : line_length (drop at s) ≡ 0 = ap line_length (drop-cons s at 0 h) ∙ line_end (get_or s at 0) (drop (suc at) s) c.if-s-at-eq10.true in
-    record { value = omega arith; lower_bound = (omega arith, omega arith) }
+    record { value = omega arith; within = (omega arith, omega arith) }
 
 pub loop-at-preserved : goal.loop-at-preserved
 loop-at-preserved c =
@@ -32,4 +32,4 @@ returns c =
     let at = c.loop-at.at in
     let h : length s ≤ at = omega arith in
     let e : line_length (drop at s) ≡ 0 = ap line_length (drop_of_length-le s h) ∙ line_nil in
-    record { value = omega arith; lower_bound = (omega arith, omega arith) }
+    record { value = omega arith; within = (omega arith, omega arith) }

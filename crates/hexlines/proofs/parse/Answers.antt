@@ -25,14 +25,14 @@ pub returns-then-out-n : goal.returns-then-out-n
 returns-then-out-n c =
     let m : length c.args.out.now ≤ c.loop-i.n = omega (arith, c.loop-i.invariant.1.same) in
     let w = left_full _ _ _ _ _ c.loop-i.invariant.1 m in
-    record { value = w.0; upper_bound = w.1 }
+    record { value = w.0; within = w.1 }
 
 pub returns-then-s-i-lt2 : goal.returns-then-s-i-lt2
 returns-then-s-i-lt2 c =
     let s = c.args.s.now in
     let h : length s ≤ c.loop-i.i + 2 = omega arith in
     let w = left_read _ _ _ _ _ (stored (goal.at.returns-then-s-i-lt2 c).After-octet) h in
-    record { value = w.0; upper_bound = w.1 }
+    record { value = w.0; within = w.1 }
 
 pub loop-i-preserved : goal.loop-i-preserved
 loop-i-preserved c = (omega arith, stored (goal.at.loop-i-preserved c).After-octet)
@@ -42,4 +42,4 @@ returns c =
     let s = c.args.s.now in
     let h : length s ≤ c.loop-i.i = omega arith in
     let w = left_read _ _ _ _ _ c.loop-i.invariant.1 h in
-    record { value = w.0; upper_bound = w.1 }
+    record { value = w.0; within = w.1 }

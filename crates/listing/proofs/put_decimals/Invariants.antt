@@ -1,16 +1,9 @@
 -- `put_decimals` meets its contract. The loop's invariant: placing the numbers still to go is placing all of them.
-use mathlib.Core.Path.{◌≡◌, refl, sym, ap, ◌∙◌}
-use mathlib.Core.List.{List, [], ◌∷◌, ◌++◌}
-use Prim.Native.Nat.{ℕ, suc, ◌+◌, ◌-◌, ◌≤◌, ◌<◌}
-use native.Mathlib.Numerals.{add-one}
-use native.Mathlib.Omega.{arith}
-use borrow.Author.Rules.{rules}
-use lib.ListN.{length, drop, get_or, length-append}
-use lib.Seq.{drop-cons, drop-length}
+use mathlib.Core.Path.{◌≡◌}
+use Prim.Native.Nat.{◌+◌, ◌-◌, ◌≤◌}
+use lib.ListN.{length, drop}
 use Rattle.octets.specs.Placing.{placed}
-use Rattle.octets.proofs.PlacingLaws.{placed_nil, placed_more, length_placed}
-use Rattle.listing.specs.Text.{space, decimal, decimals}
-use Rattle.listing.proofs.DecimalLaws.{decimals_nil, decimals_cons}
+use Rattle.listing.specs.Text.{decimals}
 use Rattle.listing.proofs.put_decimals.Given as goal
 
 abbrev pub invariant-loop-i : goal.invariant-loop-i
