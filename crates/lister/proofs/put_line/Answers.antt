@@ -13,8 +13,7 @@ use Rattle.octets.proofs.DeliveryLaws.{writes}
 use Rattle.record.specs.declared.Event.{Event}
 use Rattle.listing.specs.Text.{longest_event}
 use Rattle.lister.specs.Posts.{line_shown}
-use Rattle.lister.proofs.put_line.Statement.{statement}
-use Rattle.lister.proofs.put_line.Tie as tie
+use Rattle.lister.proofs.put_line.Goals as goal
 
 -- what the call wrote: the line u, of this length
 abbrev Wrote : ℕ → List ℕ → List ℕ → List ℕ → Type 0
@@ -36,61 +35,19 @@ silent u b e = (sym (ap length e), sym (ap (placed b 0) e ∙ placed_nil b 0), o
 line : (offset id n : ℕ) (e e' : Event) → e ≡ e' → line_shown offset e id n ≡ line_shown offset e' id n
 line offset id n e e' q = λ i. line_shown offset (q i) id n
 
-enum_told : tie.Need-enum-told
-enum_told c = search rules
+pub returns-in-Message : goal.returns-in-Message
+returns-in-Message c =
+    let a = c.args in
+    whole c.event_line-w.result _ _ a.buf.now _ (line a.offset a.id a.closed _ _ c.in-Message.is) c.requires
+    c.event_line-w.ensures.0 c.event_line-w.ensures.1
 
-enum-told-2 : tie.Need-enum-told-2
-enum-told-2 c = search rules
+pub returns-in-Refusal : goal.returns-in-Refusal
+returns-in-Refusal c =
+    let a = c.args in
+    whole c.event_line-w-in-Refusal.result _ _ a.buf.now _ (line a.offset a.id a.closed _ _ c.in-Refusal.is) c.requires
+    c.event_line-w-in-Refusal.ensures.0 c.event_line-w-in-Refusal.ensures.1
 
-event-line-requires : tie.Need-event-line-requires
-event-line-requires c κs = tt
-
-same_length : tie.Need-same-length
-same_length c = search rules
-
-returns : tie.Need-returns
+pub returns : goal.returns
 returns c =
-    let w = c.before.before in
-    let t = w.before.before in
-    let g = t.before.before.before in
-    let a = g.args in
-    whole w.event-line.result _ _ a.buf.now _ (line a.offset a.id a.closed _ _ t.enum-told2.given.1) g.requires
-    w.event-line.ensures.0 w.event-line.ensures.1
-
-enum-known-e : tie.Need-enum-known-e
-enum-known-e c = search rules
-
-event-line-requires-2 : tie.Need-event-line-requires-2
-event-line-requires-2 c κs = tt
-
-same-length-2 : tie.Need-same-length-2
-same-length-2 c = search rules
-
-returns-2 : tie.Need-returns-2
-returns-2 c =
-    let w = c.before.before in
-    let t = w.before.before.before in
-    let g = t.before.before.before in
-    let a = g.args in
-    whole w.event-line2.result _ _ a.buf.now _ (line a.offset a.id a.closed _ _ t.e.given.1) g.requires
-    w.event-line2.ensures.0 w.event-line2.ensures.1
-
-returns-3 : tie.Need-returns-3
-returns-3 c =
-    let a = c.before.before.before.args in
-    silent _ _ (line a.offset a.id a.closed _ _ c.enum_told.given.1)
-
-pub put-line-spec : {M : Type 1} → statement M
-put-line-spec =
-    tie.close
-    (tie.spec
-    enum_told
-    enum-told-2
-    event-line-requires
-    same_length
-    returns
-    enum-known-e
-    event-line-requires-2
-    same-length-2
-    returns-2
-    returns-3)
+    let a = c.args in
+    silent _ _ (line a.offset a.id a.closed _ _ c.in-Nothing.is)

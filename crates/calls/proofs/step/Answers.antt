@@ -1,23 +1,14 @@
 -- `calls::step` meets its contract: a slice of one byte is a step.
 use mathlib.Core.Path.{ap, ◌∙◌}
-use Prim.Native.Nat.{◌-◌}
 use native.Mathlib.Omega.{arith}
-use borrow.Author.Rules.{rules}
 use Rattle.record.specs.View.{view, shown}
 use Rattle.calls.proofs.Single.{single}
-use Rattle.calls.proofs.step.Statement.{statement}
-use Rattle.calls.proofs.step.Tie as tie
+use Rattle.calls.proofs.step.Goals as goal
 
-slice-aggregate-feed : tie.Need-slice-aggregate-feed
-slice-aggregate-feed c = search rules
-
-feed-requires : tie.Need-feed-requires
-feed-requires c κs = tt
-
-returns : tie.Need-returns
+pub returns : goal.returns
 returns c =
-    let x = c.before.before.before.before.args in
-    let f = c.before.before.feed.ensures in
+    let x = c.args in
+    let f = c.feed-f.ensures in
     record {
       asked =
           record {
@@ -31,6 +22,3 @@ returns c =
           };
       array = f.array;
     }
-
-pub step_spec : {M : Type 1} → statement M
-step_spec = tie.close (tie.spec slice-aggregate-feed feed-requires returns)
