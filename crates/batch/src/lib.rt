@@ -1,5 +1,6 @@
 // A list of messages in a buffer, and the time that it takes on the line.
 #![tactic(auto)]
+
 ghost use Rattle.std.specs.Prelude.{◌≡◌, ◌∷◌, [], ℕ, ◌+◌, ◌*◌, ◌≤◌, ◌<◌, length, drop};
 ghost use Rattle.numbers.specs.Number.{number_of};
 ghost use Rattle.writer.specs.Writing.{length_on_line};

@@ -1,6 +1,7 @@
 // The checksum of a frame. A register of 16 bits takes each byte at the top; the eight shifts by which a byte leaves it again are one entry
 // of a table.
 #![tactic(auto)]
+
 mod table; // what each byte alone leaves
 
 ghost use Rattle.std.specs.Prelude.{◌≡◌, ℕ, ◌*◌, List, ◌∷◌};

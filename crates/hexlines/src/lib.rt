@@ -1,5 +1,6 @@
 // Lines of hexadecimal text, in upper case: what the test programs read.
 #![tactic(auto)]
+
 ghost use Rattle.std.specs.Prelude.{◌≡◌, ◌+◌, ◌*◌, ◌-◌, ◌≤◌, ◌<◌, length, drop};
 ghost use Rattle.octets.specs.Placing.{placed};
 ghost use Rattle.hexlines.specs.Lines.{line_length, digit_of, parsed};

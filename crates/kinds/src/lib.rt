@@ -1,5 +1,6 @@
 // The kinds of message, and which messages are acceptable: document 01's questions 10 to 12.
 #![tactic(auto)]
+
 mod table; // questions 10 and 11: the twenty-one kinds and their lengths
 
 ghost use Rattle.std.specs.Prelude.{◌≡◌};

@@ -1,5 +1,6 @@
 // The latest message of each kind that is kept (the paper's standing readings): whether they are acceptable, and storing one.
 #![tactic(auto)]
+
 ghost use Rattle.std.specs.Prelude.{◌≡◌, length, take};
 ghost use Rattle.line.specs.Record.{Kept, Fit};
 ghost use Rattle.line.specs.Record.Kept.{k_43, k_46, k_eb};

@@ -1,5 +1,6 @@
 // The listing of bytes: a line for each event that the reader's slice call raises, part by part or whole, and how many there are.
 #![tactic(auto)]
+
 ghost use Rattle.std.specs.Prelude.{true, cond, ◌≡◌, ◌≤◌, ltb, length};
 ghost use Rattle.octets.specs.Placing.{placed};
 ghost use Rattle.octets.specs.Delivery.{written_of, filled_of, Counts};

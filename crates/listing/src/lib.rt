@@ -1,5 +1,6 @@
 // The text of a listing: the line of an event and the line of the total, written into a buffer that the caller lends.
 #![tactic(auto)]
+
 ghost use Rattle.std.specs.Prelude.{◌∷◌, ◌≡◌, ◌+◌, ◌<◌, ◌≤◌, length};
 ghost use Rattle.octets.specs.Placing.{placed};
 ghost use Rattle.octets.specs.Delivery.{written_of, filled_of, Counts};

@@ -1,5 +1,6 @@
 // Bytes: reading one, writing some into a lent buffer, and what every call answers that writes.
 #![tactic(auto)]
+
 ghost use Rattle.std.specs.Prelude.{◌≡◌, ◌+◌, leb, length};
 ghost use Rattle.octets.specs.Bytes.{byte};
 ghost use Rattle.octets.specs.Placing.{fits, placed};

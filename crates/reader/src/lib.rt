@@ -1,6 +1,7 @@
 // The slice call, in place: questions 1 to 3, then the bytes from place to place up to the first event, the end of the slice or the
 // limit, then what that comes to.
 #![tactic(auto)]
+
 ghost use Rattle.std.specs.Prelude.{false, List, ◌≡◌, ℕ, ◌+◌, ◌-◌, ◌<◌, ◌≤◌, length, take};
 ghost use Rattle.std.proofs.Math.Option.{Option};
 ghost use Rattle.line.specs.Frame.{mode_of, judge as judgeOf};

@@ -1,5 +1,6 @@
 // The reader's record, and a fresh one.
 #![tactic(auto)]
+
 ghost use Rattle.std.specs.Prelude.{◌≡◌};
 ghost use Rattle.record.specs.Posts.{FreshPost, blank_record};
 

@@ -19,12 +19,11 @@ returns-then-k-id c =
 
 pub loop-i-preserved : goal.loop-i-preserved
 unfolding table
-loop-i-preserved c =
-    (
-      omega arith,
-      sym (miss table c.loop-i.i c.args.id _ c.loop-i-test.true c.if-k-id.false) ∙ c.loop-i.invariant.1,
-      c.loop-i.invariant.2,
-    )
+loop-i-preserved c = (
+  omega arith,
+  sym (miss table c.loop-i.i c.args.id _ c.loop-i-test.true c.if-k-id.false) ∙ c.loop-i.invariant.1,
+  c.loop-i.invariant.2,
+)
 
 pub returns : goal.returns
 unfolding table row_in

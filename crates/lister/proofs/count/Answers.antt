@@ -1,7 +1,7 @@
 -- `count` meets its contract. The loop's invariant is `Tally`; each turn takes a byte or is the last.
-use mathlib.Core.Path.{◌≡◌, subst}
+use mathlib.Core.Path.{subst}
 use mathlib.Core.List.{List}
-use Prim.Native.Nat.{ℕ, ◌+◌, ◌-◌, ◌^◌, ◌≤◌, ◌<◌}
+use Prim.Native.Nat.{ℕ, ◌-◌, ◌^◌, ◌<◌}
 use native.Mathlib.Omega.{arith}
 use borrow.Author.Rules.{rules}
 use lib.ListN.{length, drop, length-drop}
@@ -11,13 +11,9 @@ use Rattle.record.specs.Posts.{FeedPost, InPlacePost, fed_of}
 use Rattle.record.specs.declared.InPlace.{InPlace}
 use Rattle.reader.proofs.Giving.{feeds}
 use Rattle.lister.specs.Posts.{CountPost}
-use Rattle.lister.proofs.CountLaws.{Tally, tally_none, tally_within, tally_more, tally_last}
+use Rattle.lister.proofs.CountLaws.{tally_within, tally_more, tally_last}
 use Rattle.lister.proofs.count.Goals as goal
-use Rattle.lister.proofs.count.Goals.{After-feed_in_place-x, After-shared_slice_known-1, Else-x-eq0}
-
--- the slice's length is a number of the machine
-short : (c : After-shared_slice_known-1) → length c.args.s.now < 2 ^ 64
-short c = search rules
+use Rattle.lister.proofs.count.Goals.{After-feed_in_place-x, Else-x-eq0}
 
 -- what the slice call answered
 fed : (c : After-feed_in_place-x)
@@ -37,11 +33,6 @@ fed c =
 some : (c : Else-x-eq0) → 0 < c.feed_in_place-x.result.taken
 some c = omega arith
 
-within : (c : Else-x-eq0)
-    → c.loop-x.at + c.feed_in_place-x.result.taken ≤ length c.args.s.now
-within c =
-    tally_within c.loop-x.invariant (fed_of c.feed_in_place-x.result c.feed_in_place-x.new.d) (fed c.AT.After-feed_in_place-x)
-
 pub returns-then-x-eq0 : goal.returns-then-x-eq0
 returns-then-x-eq0 c =
     let x = c.args in
@@ -50,7 +41,8 @@ returns-then-x-eq0 c =
 
 pub overflow_add-at : goal.overflow_add-at
 overflow_add-at c =
-    omega (arith, within (goal.at.overflow_add-at c).Else-x-eq0, short (goal.at.overflow_add-at c).After-shared_slice_known-1)
+    let n : length c.args.s.now < 2 ^ 64 = search rules in
+    omega (arith, tally_within c.loop-x.invariant (fed_of c.feed_in_place-x.result c.feed_in_place-x.new.d) (fed (goal.at.overflow_add-at c).After-feed_in_place-x))
 
 pub loop-x-preserved : goal.loop-x-preserved
 loop-x-preserved c =

@@ -1,10 +1,8 @@
 -- `list` meets its contract: refused as the fresh reader is, measured, and written where it fits.
-use mathlib.Core.Bool.{true, false}
 use mathlib.Core.List.{List, []}
 use mathlib.Core.Path.{◌≡◌, refl, sym, ap, ◌∙◌, subst⁻¹}
 use Prim.Native.Nat.{ℕ, ◌≤◌}
 use native.Mathlib.Omega.{arith}
-use borrow.Author.Rules.{rules}
 use lib.ListN.{length}
 use Rattle.octets.specs.Placing.{placed}
 use Rattle.octets.specs.declared.Written.{Written}

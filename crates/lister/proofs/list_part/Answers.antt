@@ -10,19 +10,14 @@ use Rattle.record.specs.View.{record_of}
 use Rattle.record.specs.Posts.{FeedPost, InPlacePost, fed_of}
 use Rattle.record.specs.declared.InPlace.{InPlace}
 use Rattle.reader.proofs.Giving.{feeds}
-use Rattle.listing.specs.Text.{longest_event}
 use Rattle.lister.specs.Posts.{PartPost}
 use Rattle.lister.proofs.FeedLaws.{line_from, offered_in}
-use Rattle.lister.proofs.Turns.{Turn, turn_none, part_offered, offer_within, part_placed, turn_within, turn_room, turn_fed, turn_more, turn_last}
+use Rattle.lister.proofs.Turns.{turn_none, part_offered, part_placed, turn_within, turn_room, turn_fed, turn_more, turn_last}
 use Rattle.lister.proofs.list_part.Goals as goal
-use Rattle.lister.proofs.list_part.Goals.{After-feed_in_place-x, After-put_line-to, After-shared_slice_known-1, Else-x-eq0, Start}
+use Rattle.lister.proofs.list_part.Goals.{After-feed_in_place-x, After-put_line-to, Else-x-eq0, Start}
 
 start-whole : (c : Start) → length c.args.r.bytes ≡ 1024
 start-whole c = search rules
-
--- the lengths of slice and buffer are numbers of the machine
-long : (c : After-shared_slice_known-1) → length c.args.s.now < 2 ^ 64
-long c = search rules
 
 -- what the slice call was given, and answered
 fed : (c : After-feed_in_place-x)
@@ -43,16 +38,6 @@ fed c =
 some : (c : Else-x-eq0) → 0 < c.feed_in_place-x.result.taken
 some c = omega arith
 
-within : (c : Else-x-eq0)
-    → c.loop-x.at + c.feed_in_place-x.result.taken ≤ length c.args.s.now
-within c =
-    turn_within c.loop-x.invariant.0 (fed_of c.feed_in_place-x.result c.feed_in_place-x.new.d) (fed c.AT.After-feed_in_place-x)
-
-line-room : (c : Else-x-eq0)
-    → longest_event ≤ length c.loop-x.buf - c.loop-x.to
-line-room c =
-    turn_room c.loop-x.invariant.0 (fed_of c.feed_in_place-x.result c.feed_in_place-x.new.d) (fed c.AT.After-feed_in_place-x) (some c)
-
 -- the part of the buffer that is lent is what is left of it
 lent : (b : List ℕ) (to : ℕ) → length (take (length b - to) (drop to b)) ≡ length b - to
 lent b to = let n = length-drop to b in length-take-le (length b - to) (drop to b) (omega arith)
@@ -72,19 +57,22 @@ returns-then-x-eq0 c =
     let y = fed_of c.feed_in_place-x.result c.feed_in_place-x.new.d in
     let w = c.loop-x.invariant.0 in
     let at = c.loop-x.at in
-    let to = c.loop-x.to in (
-      subst
+    let to = c.loop-x.to in
+    record {
+      part =
+          subst
           (λ (z : InPlace). PartPost (record_of z.head z.latest x.r.bytes) x.s.now x.buf.now (record { reader = y.reader; refusal = c.number.result; taken = at; length = to }) c.loop-x.buf)
           c.begin-x.ensures
           (subst⁻¹
           (λ (v : ℕ). PartPost (record_of c.begin-x.result.head c.begin-x.result.latest x.r.bytes) x.s.now x.buf.now (record { reader = y.reader; refusal = v; taken = at; length = to }) c.loop-x.buf)
-          c.number.ensures (turn_last w y (fed (goal.at.returns-then-x-eq0 c).After-feed_in_place-x) c.if-x-eq0.true)),
-      (w.within, (w.room, sym (length-take-le to c.loop-x.buf w.room))),
-    )
+          c.number.ensures (turn_last w y (fed (goal.at.returns-then-x-eq0 c).After-feed_in_place-x) c.if-x-eq0.true));
+      counts = (w.within, (w.room, sym (length-take-le to c.loop-x.buf w.room)));
+    }
 
 pub overflow_add-at : goal.overflow_add-at
 overflow_add-at c =
-    omega (arith, within (goal.at.overflow_add-at c).Else-x-eq0, long (goal.at.overflow_add-at c).After-shared_slice_known-1)
+    let n : length c.args.s.now < 2 ^ 64 = search rules in
+    omega (arith, turn_within c.loop-x.invariant.0 (fed_of c.feed_in_place-x.result c.feed_in_place-x.new.d) (fed (goal.at.overflow_add-at c).After-feed_in_place-x))
 
 pub overflow_sub-offset : goal.overflow_sub-offset
 overflow_sub-offset c =
@@ -92,11 +80,11 @@ overflow_sub-offset c =
 
 pub put_line-to-requires : goal.put_line-to-requires
 put_line-to-requires c =
-    rw (lent c.loop-x.buf c.loop-x.to) (line-room (goal.at.put_line-to-requires c).Else-x-eq0)
+    rw (lent c.loop-x.buf c.loop-x.to) (turn_room c.loop-x.invariant.0 (fed_of c.feed_in_place-x.result c.feed_in_place-x.new.d) (fed (goal.at.put_line-to-requires c).After-feed_in_place-x) (some (goal.at.put_line-to-requires c).Else-x-eq0))
 
 pub loop-x-smaller : goal.loop-x-smaller
 loop-x-smaller c =
-    omega (arith, within (goal.at.loop-x-smaller c).Else-x-eq0, some (goal.at.loop-x-smaller c).Else-x-eq0)
+    omega (arith, turn_within c.loop-x.invariant.0 (fed_of c.feed_in_place-x.result c.feed_in_place-x.new.d) (fed (goal.at.loop-x-smaller c).After-feed_in_place-x), some (goal.at.loop-x-smaller c).Else-x-eq0)
 
 pub loop-x-preserved : goal.loop-x-preserved
 loop-x-preserved c =

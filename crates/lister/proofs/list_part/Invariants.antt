@@ -1,19 +1,9 @@
 -- `list_part` meets its contract. The loop's invariant is `Turn`; each turn takes a byte or is the last.
-use mathlib.Core.Path.{◌≡◌, sym, subst, subst⁻¹}
-use mathlib.Core.List.{List}
-use Prim.Native.Nat.{ℕ, ◌+◌, ◌-◌, ◌^◌, ◌≤◌, ◌<◌}
-use native.Mathlib.Omega.{arith}
-use borrow.Author.Rules.{rules}
-use lib.ListN.{length, take, drop, length-drop}
-use lib.Seq.{length-take-le}
+use mathlib.Core.Path.{◌≡◌}
+use Prim.Native.Nat.{◌-◌}
+use lib.ListN.{length}
 use Rattle.record.specs.View.{record_of}
-use Rattle.record.specs.Posts.{FeedPost, InPlacePost, fed_of}
-use Rattle.record.specs.declared.InPlace.{InPlace}
-use Rattle.reader.proofs.Giving.{feeds}
-use Rattle.listing.specs.Text.{longest_event}
-use Rattle.lister.specs.Posts.{PartPost}
-use Rattle.lister.proofs.FeedLaws.{line_from, offered_in}
-use Rattle.lister.proofs.Turns.{Turn, turn_none, part_offered, offer_within, part_placed, turn_within, turn_room, turn_fed, turn_more, turn_last}
+use Rattle.lister.proofs.Turns.{Turn}
 use Rattle.lister.proofs.list_part.Given as goal
 
 -- `list_part` meets its contract. The loop's invariant is `Turn`; each turn takes a byte or is the last.

@@ -1,17 +1,9 @@
 -- `list_parts` meets its contract. The loop's invariant is `Underway`; each turn takes a byte or is the last.
-use mathlib.Core.Path.{◌≡◌, refl, sym, ap, ◌∙◌}
-use Prim.Native.Nat.{◌+◌, ◌-◌, ◌^◌, ◌≤◌, ◌<◌}
-use native.Mathlib.Omega.{arith}
-use borrow.Author.Rules.{rules}
-use lib.ListN.{length, take}
-use Rattle.octets.specs.Delivery.{accepted}
-use Rattle.octets.proofs.DeliveryLaws.{short, writes}
+use Prim.Native.Nat.{◌-◌}
+use lib.ListN.{length}
 use Rattle.record.specs.View.{view}
-use Rattle.listing.specs.Text.{total_of, longest_event}
 use Rattle.lister.specs.Listing.{text}
-use Rattle.lister.proofs.PartLaws.{Listed, called, total_whole}
-use Rattle.lister.specs.Posts.{placed_if}
-use Rattle.lister.proofs.Parts.{Underway, over_still, total_rest, total_over, total_written, part_over, part_next}
+use Rattle.lister.proofs.Parts.{Underway}
 use Rattle.lister.proofs.list_parts.Given as goal
 
 -- `list_parts` meets its contract. The loop's invariant is `Underway`; each turn takes a byte or is the last.

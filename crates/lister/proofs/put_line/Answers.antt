@@ -3,7 +3,6 @@ use mathlib.Core.Path.{◌≡◌, refl, sym, ap, ◌∙◌}
 use mathlib.Core.List.{List, []}
 use Prim.Native.Nat.{ℕ, ◌≤◌}
 use native.Mathlib.Omega.{arith}
-use borrow.Author.Rules.{rules}
 use lib.ListN.{length}
 use Rattle.octets.specs.Placing.{placed}
 use Rattle.octets.proofs.PlacingLaws.{placed_nil}
@@ -39,13 +38,13 @@ pub returns-in-Message : goal.returns-in-Message
 returns-in-Message c =
     let a = c.args in
     whole c.event_line-w.result _ _ a.buf.now _ (line a.offset a.id a.closed _ _ c.in-Message.is) c.requires
-    c.event_line-w.ensures.0 c.event_line-w.ensures.1
+    c.event_line-w.ensures.value c.event_line-w.ensures.longest
 
 pub returns-in-Refusal : goal.returns-in-Refusal
 returns-in-Refusal c =
     let a = c.args in
     whole c.event_line-w-in-Refusal.result _ _ a.buf.now _ (line a.offset a.id a.closed _ _ c.in-Refusal.is) c.requires
-    c.event_line-w-in-Refusal.ensures.0 c.event_line-w-in-Refusal.ensures.1
+    c.event_line-w-in-Refusal.ensures.value c.event_line-w-in-Refusal.ensures.longest
 
 pub returns : goal.returns
 returns c =

@@ -39,11 +39,10 @@ returns-then-not-in_entry c =
     (sym (entry-is (goal.at.returns-then-not-in_entry c).After-in_entry) ∙ c.if-not-in_entry.true))
 
 pub loop-i-preserved : goal.loop-i-preserved
-loop-i-preserved c =
-    (
-      omega arith,
-      below_more (λ k. entry_at c.args.body.now k ≡ true) c.loop-i.i c.loop-i.invariant.1 (sym (entry-is (goal.at.loop-i-preserved c).After-in_entry) ∙ c.if-not-in_entry.false),
-    )
+loop-i-preserved c = (
+  omega arith,
+  below_more (λ k. entry_at c.args.body.now k ≡ true) c.loop-i.i c.loop-i.invariant.1 (sym (entry-is (goal.at.loop-i-preserved c).After-in_entry) ∙ c.if-not-in_entry.false),
+)
 
 pub returns : goal.returns
 returns c =

@@ -59,11 +59,10 @@ run-t-requires c =
     let e = sym c.start-m.ensures in
     record {
       n_in_bounds = (n.ensures.0, v.whole, subst (λ (m : Moving). Pends m r.bytes) e (start_pends r v.whole v.possible));
-      fits =
-        (
-          subst (λ (m : Moving). Fits m 0 n.result) e (start_fits r v.whole v.possible n.result n.ensures.1),
-          subst (λ (m : Moving). Sound r.head.mode m r.bytes) e (start_sound r v.whole v.possible),
-        );
+      fits = (
+        subst (λ (m : Moving). Fits m 0 n.result) e (start_fits r v.whole v.possible n.result n.ensures.1),
+        subst (λ (m : Moving). Sound r.head.mode m r.bytes) e (start_sound r v.whole v.possible),
+      );
     }
 
 pub returns-then-o : goal.returns-then-o

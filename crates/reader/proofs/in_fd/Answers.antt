@@ -59,12 +59,12 @@ returns-else-k-lt-CAPACITY c =
     let p = c.requires in
     record {
       moves = same (goal.at.returns-else-k-lt-CAPACITY c).Start c.shut.ensures
-    (steps_refused x.mode x.m x.d.now x.b x.at x.n p.le_at.0 p.fits 4
-    (row_at (mode_of x.mode) x.b (here (goal.at.returns-else-k-lt-CAPACITY c).Start) (is_dle x.b c.in-16.is) refl
-    ∙ full_join x.m.id x.d.now x.m.len x.b _ p.le_at.3
-    (let l : x.m.len ≡ 1024 = omega (arith, c.if-k-lt-CAPACITY.false, p.fits.short) in l)
-    ∙ ap (λ y. refuse 4 x.m.id (pending y + 1)) (sym (here (goal.at.returns-else-k-lt-CAPACITY c).Start)))
-    (more (goal.at.returns-else-k-lt-CAPACITY c).Start) p.le_at.4);
+          (steps_refused x.mode x.m x.d.now x.b x.at x.n p.le_at.0 p.fits 4
+          (row_at (mode_of x.mode) x.b (here (goal.at.returns-else-k-lt-CAPACITY c).Start) (is_dle x.b c.in-16.is) refl
+          ∙ full_join x.m.id x.d.now x.m.len x.b _ p.le_at.3
+          (let l : x.m.len ≡ 1024 = omega (arith, c.if-k-lt-CAPACITY.false, p.fits.short) in l)
+          ∙ ap (λ y. refuse 4 x.m.id (pending y + 1)) (sym (here (goal.at.returns-else-k-lt-CAPACITY c).Start)))
+          (more (goal.at.returns-else-k-lt-CAPACITY c).Start) p.le_at.4);
       d_len = p.le_at.3;
     }
 
@@ -76,10 +76,10 @@ returns-then-mode-eq0 c =
     let d = take x.m.len x.d.now in
     record {
       moves = same (goal.at.returns-then-mode-eq0 c).Start c.shut-then-mode-eq0.ensures
-    (steps_ended x.mode x.m x.d.now x.b x.at x.n p.le_at.0 p.fits
-    (row_mode x.b (ap mode_of c.if-mode-eq0.true) (here (goal.at.returns-then-mode-eq0 c).Start) (is_etx x.b c.in-3.is) refl
-    ∙ (λ i. ends (judge (ap mode_of (sym c.if-mode-eq0.true) i) x.m.id d x.m.c1 x.m.c2) x.m.id d (pending (sym (here (goal.at.returns-then-mode-eq0 c).Start) i) + 1)))
-    (more (goal.at.returns-then-mode-eq0 c).Start) p.le_at.4);
+          (steps_ended x.mode x.m x.d.now x.b x.at x.n p.le_at.0 p.fits
+          (row_mode x.b (ap mode_of c.if-mode-eq0.true) (here (goal.at.returns-then-mode-eq0 c).Start) (is_etx x.b c.in-3.is) refl
+          ∙ (λ i. ends (judge (ap mode_of (sym c.if-mode-eq0.true) i) x.m.id d x.m.c1 x.m.c2) x.m.id d (pending (sym (here (goal.at.returns-then-mode-eq0 c).Start) i) + 1)))
+          (more (goal.at.returns-then-mode-eq0 c).Start) p.le_at.4);
       d_len = p.le_at.3;
     }
 
@@ -90,10 +90,10 @@ returns-else-mode-eq0 c =
     let p = c.requires in
     record {
       moves = same (goal.at.returns-else-mode-eq0 c).Start c.shut-else-mode-eq0.ensures
-    (steps_refused x.mode x.m x.d.now x.b x.at x.n p.le_at.0 p.fits 6
-    (row_mode x.b (mode_summed x.mode c.if-mode-eq0.false) (here (goal.at.returns-else-mode-eq0 c).Start) (is_etx x.b c.in-3.is) refl
-    ∙ ap (λ y. refuse 6 x.m.id (pending y + 1)) (sym (here (goal.at.returns-else-mode-eq0 c).Start)))
-    (more (goal.at.returns-else-mode-eq0 c).Start) p.le_at.4);
+          (steps_refused x.mode x.m x.d.now x.b x.at x.n p.le_at.0 p.fits 6
+          (row_mode x.b (mode_summed x.mode c.if-mode-eq0.false) (here (goal.at.returns-else-mode-eq0 c).Start) (is_etx x.b c.in-3.is) refl
+          ∙ ap (λ y. refuse 6 x.m.id (pending y + 1)) (sym (here (goal.at.returns-else-mode-eq0 c).Start)))
+          (more (goal.at.returns-else-mode-eq0 c).Start) p.le_at.4);
       d_len = p.le_at.3;
     }
 
@@ -104,10 +104,10 @@ returns-then-mode-eq0-2 c =
     let p = c.requires in
     record {
       moves = same (goal.at.returns-then-mode-eq0-2 c).Start c.shut-then-mode-eq0-2.ensures
-    (steps_refused x.mode x.m x.d.now x.b x.at x.n p.le_at.0 p.fits 7
-    (row_mode x.b (ap mode_of c.if-mode-eq0-2.true) (here (goal.at.returns-then-mode-eq0-2 c).Start) (is_sum x.b c.in-255.is) refl
-    ∙ ap (λ y. refuse 7 x.m.id (pending y + 1)) (sym (here (goal.at.returns-then-mode-eq0-2 c).Start)))
-    (more (goal.at.returns-then-mode-eq0-2 c).Start) p.le_at.4);
+          (steps_refused x.mode x.m x.d.now x.b x.at x.n p.le_at.0 p.fits 7
+          (row_mode x.b (ap mode_of c.if-mode-eq0-2.true) (here (goal.at.returns-then-mode-eq0-2 c).Start) (is_sum x.b c.in-255.is) refl
+          ∙ ap (λ y. refuse 7 x.m.id (pending y + 1)) (sym (here (goal.at.returns-then-mode-eq0-2 c).Start)))
+          (more (goal.at.returns-then-mode-eq0-2 c).Start) p.le_at.4);
       d_len = p.le_at.3;
     }
 
@@ -119,9 +119,9 @@ returns-else-mode-eq0-2 c =
     let d = take x.m.len x.d.now in
     record {
       moves = same (goal.at.returns-else-mode-eq0-2 c).Start c.go-else-mode-eq0-2.ensures
-    (steps_went x.mode x.m x.d.now x.b x.at x.n p.le_at.0 p.fits x.m.c1 x.m.c2 4 (C0 x.m.id d)
-    (row_mode x.b (mode_summed x.mode c.if-mode-eq0-2.false) (here (goal.at.returns-else-mode-eq0-2 c).Start) (is_sum x.b c.in-255.is) refl)
-    refl (omega arith) p.le_at.4);
+          (steps_went x.mode x.m x.d.now x.b x.at x.n p.le_at.0 p.fits x.m.c1 x.m.c2 4 (C0 x.m.id d)
+          (row_mode x.b (mode_summed x.mode c.if-mode-eq0-2.false) (here (goal.at.returns-else-mode-eq0-2 c).Start) (is_sum x.b c.in-255.is) refl)
+          refl (omega arith) p.le_at.4);
       d_len = p.le_at.3;
     }
 
@@ -133,9 +133,9 @@ returns-in-0-to-2 c =
     let d = take x.m.len x.d.now in
     record {
       moves = same (goal.at.returns-in-0-to-2 c).Start c.shut-in-0-to-2.ensures
-    (steps_reopened x.mode x.m x.d.now x.b x.at x.n p.le_at.0 p.fits 5 (pending (F x.m.id d))
-    (row_at (mode_of x.mode) x.b (here (goal.at.returns-in-0-to-2 c).Start)
-    (class_other x.b c.in-0-to-2.in-0-to-2-own.rest.0.0.1 c.in-0-to-2.in-0-to-2-own.rest.0.1 c.in-0-to-2.in-0-to-2-own.rest.1) refl)
-    (omega (arith, p.le_at.4, ap pending (here (goal.at.returns-in-0-to-2 c).Start))) (more (goal.at.returns-in-0-to-2 c).Start));
+          (steps_reopened x.mode x.m x.d.now x.b x.at x.n p.le_at.0 p.fits 5 (pending (F x.m.id d))
+          (row_at (mode_of x.mode) x.b (here (goal.at.returns-in-0-to-2 c).Start)
+          (class_other x.b c.in-0-to-2.in-0-to-2-own.rest.0.0.1 c.in-0-to-2.in-0-to-2-own.rest.0.1 c.in-0-to-2.in-0-to-2-own.rest.1) refl)
+          (omega (arith, p.le_at.4, ap pending (here (goal.at.returns-in-0-to-2 c).Start))) (more (goal.at.returns-in-0-to-2 c).Start));
       d_len = p.le_at.3;
     }
