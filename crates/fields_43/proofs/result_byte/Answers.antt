@@ -7,8 +7,7 @@ use borrow.Author.Tests.{leb-true}
 use lib.Bits.{bit_or, or_shifted}
 use lib.Dec.{leb}
 use Rattle.fields_43.specs.Fields.{bit_of}
-use Rattle.fields_43.proofs.result_byte.Statement.{statement}
-use Rattle.fields_43.proofs.result_byte.Tie as tie
+use Rattle.fields_43.proofs.result_byte.Goals as goal
 
 bit_le : (b : Bool) → bit_of b ≤ 1
 bit_le true = omega arith
@@ -25,23 +24,9 @@ packed a g p l ha hg hp hl =
     let f₃ : bit_or ((a * 4 + g * 2 + p) * 16) l ≡ (a * 4 + g * 2 + p) * 16 + l = or_shifted (a * 4 + g * 2 + p) 4 l (omega arith) in
     rw (e₁, e₂, e₃, f₁, f₂, f₃) (omega arith)
 
-bit-requires : tie.Need-bit-requires
-bit-requires c κs = tt
-
-bit-requires-2 : tie.Need-bit-requires-2
-bit-requires-2 c κs = tt
-
-returns : tie.Need-returns
-returns c =
-    let i = c.before.before in
-    let p = i.before.before.before in
-    let f = p.before.before.args.f in
-    let b = (and-eq-true_iff (leb f.antenna 3) (leb f.low 15)).0 i.if1.true in
-    rw (i.if1.true, p.before.bit.ensures, p.bit2.ensures)
+pub returns-then-f : goal.returns-then-f
+returns-then-f c =
+    let f = c.args.f in
+    let b = (and-eq-true_iff (leb f.antenna 3) (leb f.low 15)).0 c.if-f.true in
+    rw (c.if-f.true, c.bit-glonass.ensures, c.bit-gps.ensures)
     (packed f.antenna (bit_of f.glonass) (bit_of f.gps) f.low (leb-true _ _ b.0) (bit_le f.glonass) (bit_le f.gps) (leb-true _ _ b.1))
-
-returns-2 : tie.Need-returns-2
-returns-2 c = rw c.if1.false
-
-pub result-byte-spec : {M : Type 1} → statement M
-result-byte-spec = tie.close (tie.spec bit-requires bit-requires-2 returns returns-2)
