@@ -1,7 +1,6 @@
 -- `elapsed_seconds` meets its contract: no step leaves 32 bits.
 use mathlib.Core.Path.{◌≡◌}
 use native.Mathlib.Omega.{arith}
-use borrow.Author.Rules.{rules}
 use lib.IntN.{ℤ, pos, ◌+ℤ◌, ◌-ℤ◌, ◌*ℤ◌}
 use mir.Syntax.{w32}
 use mir.Val.{SFits, to_z}
@@ -9,10 +8,10 @@ use mir.ValLaws.{to_z-of_z, to_z_pos}
 use Rattle.utc.specs.Meaning.{Near}
 use Rattle.utc.proofs.SizeLaws.{fits_32}
 use Rattle.utc.proofs.ElapsedLaws.{near, seconds_size, weeks_size, product_size, elapsed_size}
-use Rattle.utc.proofs.elapsed_seconds.Statement.{statement}
-use Rattle.utc.proofs.elapsed_seconds.Tie as tie
+use Rattle.utc.proofs.elapsed_seconds.Goals as goal
+use Rattle.utc.proofs.elapsed_seconds.Goals.{Start}
 
-module _ (c : tie.Start) where
+module _ (c : Start) where
   bounds : Near c.args.second c.args.tot c.args.week c.args.wnt
   bounds = near c.args.second c.args.tot c.args.week c.args.wnt c.requires
 
@@ -49,39 +48,26 @@ module _ (c : tie.Start) where
   fits-elapsed : SFits w32 (seconds +ℤ product)
   fits-elapsed = fits_32 (seconds +ℤ product) (omega (arith, elapsed_size c.args.second c.args.tot c.args.week c.args.wnt bounds))
 
-cast-result : tie.Need-overflow-cast-result
-cast-result c = omega (arith, (bounds c).second_le)
+pub overflow_cast-result : goal.overflow_cast-result
+overflow_cast-result c = omega (arith, (bounds c).second_le)
 
-cast-result-2 : tie.Need-overflow-cast-result-2
-cast-result-2 c = omega (arith, (bounds c).tot_le)
+pub overflow_cast-result-2 : goal.overflow_cast-result-2
+overflow_cast-result-2 c = omega (arith, (bounds c).tot_le)
 
-sub-result : tie.Need-overflow-sub-result
-sub-result c = rw (second_is c, tot-is c) (fits-seconds c)
+pub overflow_sub-result : goal.overflow_sub-result
+overflow_sub-result c = rw (second_is c, tot-is c) (fits-seconds c)
 
-cast-result-3 : tie.Need-overflow-cast-result-3
-cast-result-3 c = search rules
+pub overflow_mul-result : goal.overflow_mul-result
+overflow_mul-result c = rw (week-is c, wnt-is c, to_z-of_z w32 (weeks c) (fits-weeks c)) (fits-product c)
 
-cast-result-4 : tie.Need-overflow-cast-result-4
-cast-result-4 c = search rules
-
-sub-result-2 : tie.Need-overflow-sub-result-2
-sub-result-2 c = rw (week-is c, wnt-is c) (fits-weeks c)
-
-mul-result : tie.Need-overflow-mul-result
-mul-result c = rw (week-is c, wnt-is c, to_z-of_z w32 (weeks c) (fits-weeks c)) (fits-product c)
-
-add-result : tie.Need-overflow-add-result
-add-result c =
+pub overflow_add-result : goal.overflow_add-result
+overflow_add-result c =
     rw
     (second_is c, tot-is c, week-is c, wnt-is c, to_z-of_z w32 (weeks c) (fits-weeks c), to_z-of_z w32 (seconds c) (fits-seconds c), to_z-of_z w32 (product c) (fits-product c))
     (fits-elapsed c)
 
-returns : tie.Need-returns
+pub returns : goal.returns
 returns c =
     rw
     (second_is c, tot-is c, week-is c, wnt-is c, to_z-of_z w32 (weeks c) (fits-weeks c), to_z-of_z w32 (seconds c) (fits-seconds c), to_z-of_z w32 (product c) (fits-product c))
     (to_z-of_z w32 (seconds c +ℤ product c) (fits-elapsed c))
-
-pub elapsed-seconds-spec : {M : Type 1} → statement M
-elapsed-seconds-spec =
-    tie.close (tie.spec cast-result cast-result-2 sub-result cast-result-3 cast-result-4 sub-result-2 mul-result add-result returns)
