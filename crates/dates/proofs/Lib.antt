@@ -1,7 +1,6 @@
 pub mod RollLaws
 pub mod DayLaws
 pub mod NumberLaws
-pub mod InPlace
 pub mod ZoneLaws
 pub mod FieldLaws
 pub mod UtcLaws

@@ -1,5 +1,6 @@
 // Dates: the day after and the day before, by value and in place, and the date and time in UTC from 46h data.
 #![tactic(auto)]
+
 pub mod answer; // a time in UTC, or why there is none
 
 ghost use Rattle.std.specs.Prelude.{◌≡◌, cond, true, ◌&&◌, ◌+◌, ◌-◌, ◌%◌, ◌≤◌, ◌<◌, leb, pos, nat_abs, ◌-ℤ◌};

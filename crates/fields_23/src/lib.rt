@@ -2,6 +2,7 @@
 // Decoding gives the fields of acceptable data, or the refusal. Encoding lays the fields out and delivers them, so that fields out of
 // range are refused as their data would be.
 #![tactic(auto)]
+
 ghost use Rattle.std.specs.Prelude.{◌≡◌, cond, leb};
 ghost use Rattle.encoding.specs.Encoding.{encoded_of, encoded_into};
 ghost use Rattle.rows.specs.Layout.{words};

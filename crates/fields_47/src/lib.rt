@@ -1,5 +1,6 @@
 // 47h, the use of each satellite, as fields and as data.
 #![tactic(auto)]
+
 ghost use Rattle.std.specs.Prelude.{◌≡◌, ◌*◌, ◌≤◌, length};
 ghost use Rattle.encoding.specs.Encoding.{encoded_of, encoded_into};
 ghost use Rattle.encoding.specs.Entries.{entries_of, entries_data};

@@ -1,5 +1,6 @@
 // 52h, the visible satellites, as fields and as data.
 #![tactic(auto)]
+
 ghost use Rattle.std.specs.Prelude.{◌≡◌, ◌*◌, ◌≤◌, length, take};
 ghost use Rattle.octets.specs.Delivery.{written_of, filled_of};
 ghost use Rattle.encoding.specs.Entries.{entries_of, entries_data};

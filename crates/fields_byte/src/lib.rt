@@ -1,6 +1,7 @@
 // The kinds of no byte, and those of one byte or none, as fields and as data. Encoding puts the data into a lent buffer, or refuses and
 // leaves the buffer as it is.
 #![tactic(auto)]
+
 ghost use Rattle.std.specs.Prelude.{[], ◌≡◌};
 ghost use Rattle.octets.specs.Delivery.{written_of, filled_of};
 ghost use Rattle.fields_byte.specs.Fields.{empty_kind, one_byte_kind, family_refusal, empty_refusal, decoded_empty_of};

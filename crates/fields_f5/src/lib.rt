@@ -1,6 +1,7 @@
 // F5h, raw measurements, as fields and as data.
 // Decoding gives a refusal with blank fields, or 0 with the fields. FP fields are kept as their bits; no value is refused.
 #![tactic(auto)]
+
 ghost use Rattle.std.specs.Prelude.{◌≡◌, ◌++◌, ◌+◌, ◌*◌, ◌-◌, ◌≤◌, length, take, drop};
 ghost use Rattle.octets.specs.Delivery.{written_of, filled_of};
 ghost use Rattle.rows.specs.Layout.{words};

@@ -1,5 +1,6 @@
 // Which satellites are in use: 47h data as a word with a bit for each satellite, and back.
 #![tactic(auto)]
+
 ghost use Rattle.std.specs.Prelude.{cond, true, ◌≡◌, ℕ, ◌+◌, ◌*◌, ◌≤◌, eqb, length};
 ghost use Rattle.octets.specs.Placing.{placed};
 ghost use Rattle.octets.specs.Delivery.{written_of, filled_of};

@@ -1,5 +1,6 @@
 // Lookup of a satellite in 52h data.
 #![tactic(auto)]
+
 ghost use Rattle.std.specs.Prelude.{◌≡◌};
 ghost use Rattle.lookup.specs.Lookup.{found_in};
 

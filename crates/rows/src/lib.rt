@@ -1,5 +1,6 @@
 // Rows of the sources' tables, one after the other as the data of a message.
 #![tactic(auto)]
+
 ghost use Rattle.std.specs.Prelude.{◌≡◌, true, cond, ◌&&◌, ◌≤◌, leb, length};
 ghost use Rattle.octets.specs.Placing.{fits, placed};
 ghost use Rattle.numbers.specs.Number.{bytes_of};

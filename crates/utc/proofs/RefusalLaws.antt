@@ -4,7 +4,7 @@ use mathlib.Core.Bool.{Bool, true, false, not, cond, ◌&&◌}
 use mathlib.Core.List.{List}
 use Prim.Native.Nat.{ℕ}
 use native.Mathlib.Omega.{arith}
-use borrow.Author.Tests.{eq-eqb, ne_eqb, not-true, not-false}
+use borrow.Author.Tests.{eq-eqb, ne_eqb}
 use lib.Dec.{eqb}
 use lib.Ieee.{binary64, of_bits}
 use lib.Ieee.Scale.{finite}
@@ -16,11 +16,11 @@ use Rattle.utc.specs.Offset.{in_time, refusal_of, seconds_of, Answer, gives, ref
 use Rattle.utc.specs.Meaning.{Finite}
 
 -- a test that said no, and one that said yes
-pub said_no : (r a : Bool) → r ≡ a → not r ≡ true → a ≡ false
-said_no r a e h = sym e ∙ not-true r h
+pub said_no : (r a : Bool) → r ≡ a → r ≡ false → a ≡ false
+said_no r a e h = sym e ∙ h
 
-pub said_yes : (r a : Bool) → r ≡ a → not r ≡ false → a ≡ true
-said_yes r a e h = sym e ∙ not-false r h
+pub said_yes : (r a : Bool) → r ≡ a → r ≡ true → a ≡ true
+said_yes r a e h = sym e ∙ h
 
 module _ (f : Scales) (second week : ℕ) where
   abbrev pub timely : Bool

@@ -1,5 +1,6 @@
 // The offset of GPS time from UTC, from 4Bh data.
 #![tactic(auto)]
+
 pub mod answer; // an offset, or why there is none
 
 ghost use Rattle.std.specs.Prelude.{◌≡◌, true, ◌+◌, ◌-◌};

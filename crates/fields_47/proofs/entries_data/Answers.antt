@@ -1,0 +1,27 @@
+-- `entries_data` meets its contract. The loop's invariant: the bytes of the first i triples stand at the array's start.
+use mathlib.Core.Path.{◌≡◌, refl, sym, ◌∙◌}
+use Prim.Native.Nat.{◌*◌}
+use native.Mathlib.Omega.{arith}
+use Rattle.octets.proofs.PlacingLaws.{placed_nil}
+use Rattle.encoding.proofs.EntryLaws.{laid_more, laid_whole}
+use Rattle.encoding.specs.Entries.{laid_out}
+use Rattle.fields_47.specs.Fields.{uses}
+use Rattle.fields_47.proofs.entries_data.Goals as goal
+use Rattle.fields_47.proofs.entries_data.Invariants.{zeros}
+
+pub loop-i-init : goal.loop-i-init
+unfolding laid_out
+loop-i-init c = (omega arith, sym (placed_nil zeros 0))
+
+pub loop-i-preserved : goal.loop-i-preserved
+loop-i-preserved c =
+    let i = c.loop-i.i in
+    let more = laid_more uses zeros c.args.entries i (3 * i) (λ _ _. refl) (omega arith) (omega arith) in (
+      omega arith,
+      c.put.ensures.1 ∙ more _ c.loop-i.invariant.1 _ c.entry_data-d.ensures,
+    )
+
+pub returns : goal.returns
+returns c =
+    let e : c.loop-i.i ≡ 56 = omega arith in
+    rw (c.loop-i.invariant.1, e) (laid_whole uses zeros c.args.entries 56 (λ _ _. refl) refl)
