@@ -20,7 +20,7 @@ use Rattle.takeover.specs.Account.{From, joined, GoesOn, HadOld}
 use Rattle.takeover.specs.Account.From.{begun, stepped, fed}
 
 -- calls on a record that is seen as one which a list of calls left go on from that list
-pub continues : {m : ℕ} {h k : History} {q r : Reader} → Seen m h (view q) → From q k r → Seen m (joined h k) (view r)
+pub continues : {m : ℕ} {h : History} {q : Reader} {k : History} {r : Reader} → Seen m h (view q) → From q k r → Seen m (joined h k) (view r)
 continues s begun = s
 continues s (stepped {q = q} {b = b} x f p) = Seen.stepped {b = b} (continues s f) (step_seen q b x p)
 continues s (fed {q = q} {bs = bs} x f p) = Seen.fed {bs = bs} (continues s f) (feed_seen q bs x p)
