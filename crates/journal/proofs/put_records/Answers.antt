@@ -7,7 +7,7 @@ use lib.ListN.{length, take, drop}
 use Rattle.octets.specs.Bytes.{byte}
 use Rattle.octets.specs.Placing.{placed}
 use Rattle.octets.proofs.PlacingLaws.{length_placed, placed_nil}
-use Rattle.batch.specs.Entries.{Entry, body_in, Contents, contents_of}
+use Rattle.batch.specs.Entries.{Entry, body_in, Contents}
 use Rattle.batch.proofs.EntryLaws.{body_part}
 use Rattle.journal.specs.Records.{record_of}
 use Rattle.journal.specs.Calls.{records_in}
@@ -75,4 +75,4 @@ returns c =
     ∙ ap (λ (k : Contents). placed a.buf.now 0 (records_in k)) (sym (unrefused a.list.now c.requires.0))
 
 pub slice_bounds-put_record-end : goal.slice_bounds-put_record-end
-slice_bounds-put_record-end c = ?
+slice_bounds-put_record-end c = (here (goal.at.slice_bounds-put_record-end c).After-length_at-n).within

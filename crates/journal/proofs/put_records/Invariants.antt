@@ -1,18 +1,11 @@
 -- `put_records` meets its contract. The loop's invariant: what is left of the list is not refused, it fits, and with its records placed
 -- the buffer is what it is to be.
-use mathlib.Core.List.{[]}
-use mathlib.Core.Path.{◌≡◌, refl, sym, ap, ◌∙◌, subst}
+use mathlib.Core.Path.{◌≡◌}
 use Prim.Native.Nat.{◌+◌, ◌-◌, ◌≤◌}
-use native.Mathlib.Omega.{arith}
-use lib.ListN.{length, take, drop}
-use Rattle.octets.specs.Bytes.{byte}
+use lib.ListN.{length, drop}
 use Rattle.octets.specs.Placing.{placed}
-use Rattle.octets.proofs.PlacingLaws.{length_placed, placed_nil}
-use Rattle.batch.specs.Entries.{Entry, body_in, Contents, contents_of}
-use Rattle.batch.proofs.EntryLaws.{body_part}
-use Rattle.journal.specs.Records.{record_of}
-use Rattle.journal.specs.Calls.{records_in}
-use Rattle.journal.proofs.WritingLaws.{Entire, entire, unrefused, Turn, turn, left_of, none_left, written_one}
+use Rattle.batch.specs.Entries.{contents_of}
+use Rattle.journal.proofs.WritingLaws.{Entire, left_of}
 use Rattle.journal.proofs.put_records.Given as goal
 
 -- `put_records` meets its contract. The loop's invariant: what is left of the list is not refused, it fits, and with its records placed

@@ -4,13 +4,12 @@ use mathlib.Core.List.{List}
 use mathlib.Core.Path.{◌≡◌, sym, ◌∙◌}
 use Prim.Native.Nat.{ℕ, ◌+◌, ◌-◌}
 use native.Mathlib.Omega.{arith}
-use borrow.Author.Rules.{rules}
 use lib.Dec.{ltb}
 use lib.ListN.{length, take, drop}
 use Rattle.octets.specs.Bytes.{byte}
 use Rattle.kinds.specs.Kinds.{content}
 use Rattle.journal.specs.Records.{restored}
-use Rattle.journal.specs.Calls.{nothing, judged, marked, length_in}
+use Rattle.journal.specs.Calls.{judged, marked, length_in}
 use Rattle.journal.proofs.ReadingLaws.{read_end, read_unmarked, read_short, read_cut, read_record}
 use Rattle.journal.proofs.read.Goals as goal
 use Rattle.journal.proofs.read.Goals.{After-is_marked}

@@ -3,18 +3,15 @@ use mathlib.Core.List.{List}
 use mathlib.Core.Path.{◌≡◌, sym, ap, ◌∙◌}
 use Prim.Native.Nat.{ℕ, ◌+◌, ◌≤◌, ◌<◌}
 use native.Mathlib.Omega.{arith}
-use borrow.Author.Rules.{rules}
-use borrow.Author.Tests.{not-true, not-false, leb-true, leb-false}
+use borrow.Author.Tests.{leb-true, leb-false}
 use lib.ListN.{length, take, replicate}
-use lib.Seq.{length-take-le}
 use Rattle.octets.specs.Placing.{placed}
-use Rattle.octets.proofs.PlacingLaws.{length_placed}
 use Rattle.octets.proofs.DeliveryLaws.{placed_back}
 use Rattle.kinds.specs.Kinds.{content}
 use Rattle.columns.specs.Columns.{by_rows}
 use Rattle.journal.specs.declared.Layout.{Layout}
 use Rattle.journal.specs.Records.{restored}
-use Rattle.journal.specs.Calls.{nothing, judged}
+use Rattle.journal.specs.Calls.{nothing}
 use Rattle.journal.proofs.RecordLaws.{length_restored}
 use Rattle.journal.proofs.ReadingLaws.{judged_given, judged_refused, long_refused}
 use Rattle.journal.proofs.restore.Goals as goal
@@ -37,16 +34,17 @@ fits c =
     omega arith
 
 -- so that what is judged is the data in line order
-judged-data : (c : After-content-refusal)
-    → let a = c.args in
-    c.content-refusal.result ≡ content a.id (restored a.id a.body.now)
-judged-data c =
+judged-data : (c : After-content-refusal) →
+    let a = c.args in
+    c.to_rows.new.buf ≡ placed (replicate 1024 0) 0 (restored a.id a.body.now) → length a.body.now ≤ 1024
+    → c.content-refusal.result ≡ content a.id (restored a.id a.body.now)
+judged-data c o h =
     let a = c.args in
     let d : List ℕ = restored a.id a.body.now in
     let n : length d ≡ length a.body.now = length_restored a.id a.body.now in
     c.content-refusal.ensures
-    ∙ (λ k. content a.id (take (sym n k) (in_order c.AT.After-to_rows k)))
-    ∙ ap (content a.id) (placed_back (replicate 1024 0) d (omega (arith, n, fits c.AT.Else-not-to_rows)))
+    ∙ (λ k. content a.id (take (sym n k) (o k)))
+    ∙ ap (content a.id) (placed_back (replicate 1024 0) d (omega (arith, n, h)))
 
 pub returns-then-not-to_rows : goal.returns-then-not-to_rows
 returns-then-not-to_rows c =
@@ -58,7 +56,7 @@ returns-then-not-to_rows c =
 pub returns-then-refusal-ne0 : goal.returns-then-refusal-ne0
 returns-then-refusal-ne0 c =
     let a = c.args in
-    let e = judged-data (goal.at.returns-then-refusal-ne0 c).After-content-refusal in
+    let e = judged-data (goal.at.returns-then-refusal-ne0 c).After-content-refusal (in_order (goal.at.returns-then-refusal-ne0 c).After-to_rows) (fits (goal.at.returns-then-refusal-ne0 c).Else-not-to_rows) in
     c.nothing-then-refusal-ne0.ensures
     ∙ ap nothing e
     ∙ sym (judged_refused (content a.id (restored a.id a.body.now)) a.id (restored a.id a.body.now) (λ z. c.if-refusal-ne0.true (e ∙ z)))
@@ -69,4 +67,4 @@ returns c =
     let d : List ℕ = restored a.id a.body.now in
     let n : length a.body.now ≡ length d = sym (length_restored a.id a.body.now) in
     (λ k. record { refusal = 0; id = a.id; length = n k; taken = 5 + n k; bytes = in_order (goal.at.returns c).After-to_rows k })
-    ∙ sym (judged_given (content a.id d) a.id d (sym (judged-data (goal.at.returns c).After-content-refusal) ∙ c.if-refusal-ne0.false))
+    ∙ sym (judged_given (content a.id d) a.id d (sym (judged-data (goal.at.returns c).After-content-refusal (in_order (goal.at.returns c).After-to_rows) (fits (goal.at.returns c).Else-not-to_rows)) ∙ c.if-refusal-ne0.false))

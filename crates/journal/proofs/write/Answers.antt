@@ -1,12 +1,4 @@
 -- `write` meets its contract: each answer is by the tests that led to it.
-use mathlib.Core.Path.{◌≡◌, sym, ap, ◌∙◌}
-use Prim.Native.Nat.{◌≤◌}
-use native.Mathlib.Omega.{arith}
-use borrow.Author.Rules.{rules}
-use lib.ListN.{length}
-use Rattle.octets.specs.declared.Written.{Written}
-use Rattle.batch.specs.Entries.{list_of}
-use Rattle.journal.specs.Calls.{refusal_in, records_in}
 use Rattle.journal.proofs.WritingLaws.{write_refused, write_short, write_done}
 use Rattle.journal.proofs.write.Goals as goal
 
