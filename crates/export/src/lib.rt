@@ -1,8 +1,9 @@
-// The library for C and Rust: numbers and byte slices alone. A slice is a pointer and a length.
+// The calls for C and Rust, which `export_c` exports: numbers and byte slices alone.
 //
 // A call that fills a buffer returns one number: the length, or where it is refused 2^64 less the refusal's number, which a caller
 // who reads the number as signed sees as that number with a minus.
 #![tactic(auto)]
+
 ghost use Rattle.std.specs.Prelude.{◌≡◌};
 ghost use Rattle.octets.specs.Delivery.{written_of, filled_of};
 ghost use Rattle.kinds.specs.Kinds.{content};
@@ -25,8 +26,7 @@ fn answer(w: Written) -> u64
 }
 
 // The listing of the bytes in a mode, as listoff and liston print it: a line for each event, then the total.
-#[unsafe(no_mangle)]
-pub extern "C" fn binr_list(mode: u8, bytes: &[u8], out: &mut [u8]) -> u64
+pub fn binr_list(mode: u8, bytes: &[u8], out: &mut [u8]) -> u64
     ensures { (result ≡ answer_of (written_of (fresh_refusal (fresh mode)) (listing_of (fresh mode) bytes.now) out.old))
         × (out.new ≡ filled_of (fresh_refusal (fresh mode)) (listing_of (fresh mode) bytes.now) out.old) }
 {
@@ -35,8 +35,7 @@ pub extern "C" fn binr_list(mode: u8, bytes: &[u8], out: &mut [u8]) -> u64
 }
 
 // The frame of a message in a mode.
-#[unsafe(no_mangle)]
-pub extern "C" fn binr_write(mode: u8, id: u8, body: &[u8], out: &mut [u8]) -> u64
+pub fn binr_write(mode: u8, id: u8, body: &[u8], out: &mut [u8]) -> u64
     ensures { (result ≡ answer_of (Writing.frame_written mode id body.now out.old))
         × (out.new ≡ Writing.frame_filled mode id body.now out.old) }
 {
@@ -45,16 +44,14 @@ pub extern "C" fn binr_write(mode: u8, id: u8, body: &[u8], out: &mut [u8]) -> u
 }
 
 // 0 of an acceptable message, else 10, 11 or 12.
-#[unsafe(no_mangle)]
-pub extern "C" fn binr_judge(id: u8, body: &[u8]) -> u8
+pub fn binr_judge(id: u8, body: &[u8]) -> u8
     ensures { result ≡ content id body.now }
 {
     kinds::content(id, body)
 }
 
 // How many events the bytes raise in a mode. A mode that has no reader has none.
-#[unsafe(no_mangle)]
-pub extern "C" fn binr_count(mode: u8, bytes: &[u8]) -> u64
+pub fn binr_count(mode: u8, bytes: &[u8]) -> u64
     ensures { result ≡ count_of (fresh mode) bytes.now }
 {
     lister::count_events(mode, bytes)
