@@ -1,0 +1,12 @@
+-- `batches::lay`: each turn goes on.
+use mathlib.Core.Path.{◌≡◌}
+use Prim.Native.Nat.{◌-◌, ◌≤◌}
+use lib.ListN.{length}
+use Rattle.batches.proofs.lay.Given as goal
+
+-- `batches::lay`: each turn goes on.
+abbrev pub invariant-loop-k : goal.invariant-loop-k
+invariant-loop-k l = (l.k ≤ l.count) × (length l.buf ≡ length l.initial.buf)
+
+abbrev pub decreases-loop-k : goal.decreases-loop-k
+decreases-loop-k l = l.count - l.k
