@@ -1,0 +1,11 @@
+-- `basics::decimals`: each turn goes on.
+use Prim.Native.Nat.{◌-◌, ◌≤◌}
+use lib.ListN.{length}
+use Rattle.basics.proofs.decimals.Given as goal
+
+-- `basics::decimals`: each turn goes on.
+abbrev pub invariant-loop-i : goal.invariant-loop-i
+invariant-loop-i l = l.i ≤ length l.s
+
+abbrev pub decreases-loop-i : goal.decreases-loop-i
+decreases-loop-i l = length l.s - l.i
