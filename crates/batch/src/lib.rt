@@ -1,5 +1,6 @@
 // A list of messages in a buffer, and the time that it takes on the line.
 #![tactic(auto)]
+
 ghost use Rattle.std.specs.Prelude.{◌≡◌, ◌∷◌, [], ℕ, ◌+◌, ◌*◌, ◌≤◌, ◌<◌, length, drop};
 ghost use Rattle.numbers.specs.Number.{number_of};
 ghost use Rattle.writer.specs.Writing.{length_on_line};
@@ -10,7 +11,7 @@ ghost use Rattle.batch.specs.Times.{time_of, time_for};
 pub const LIMIT: usize = 65536;
 
 // An entry of a list: a refusal, or 0 with the identifier and the length of the data.
-#[derive(Drop)]
+#[derive(Clone, Copy)]
 pub struct Header {
     pub refusal: u8,
     pub id: u8,
@@ -18,7 +19,7 @@ pub struct Header {
 }
 
 // What a list takes on the line: a refusal, or 0 with the bytes and the bits.
-#[derive(Drop)]
+#[derive(Clone, Copy)]
 pub struct LineTime {
     pub refusal: u8,
     pub bytes: usize,

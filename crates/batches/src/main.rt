@@ -24,7 +24,7 @@ use journal::Entry;
 use octets::Written;
 
 // What the writer made of the entries so far.
-#[derive(Drop)]
+#[derive(Clone, Copy)]
 struct Sums {
     entries: u64,
     refused: u64,
@@ -133,7 +133,7 @@ fn show_entry(list: &[u8], at: usize) {
 }
 
 // What reading a journal to the end gave.
-#[derive(Drop)]
+#[derive(Clone, Copy)]
 struct Through {
     messages: u64,
     taken: u64,

@@ -1,5 +1,6 @@
 // The Gregorian calendar: leap years, the days of a month, and which dates there are.
 #![tactic(auto)]
+
 ghost use Rattle.std.specs.Prelude.{◌≡◌};
 ghost use Rattle.calendar.specs.Calendar.{leap, days_in, date_exists};
 

@@ -1,5 +1,6 @@
 // The calls on a record by value: a slice and a single step. The theorem over every list of calls is in this crate's proofs.
 #![tactic(auto)]
+
 ghost use Rattle.record.specs.Posts.{StepPost, FeedPost};
 
 use record::{Answer, Fed, Reader, Stepped};

@@ -1,6 +1,7 @@
 // The checksum of a frame. A register of 16 bits takes each byte at the top; the eight shifts by which a byte leaves it again are one entry
 // of a table.
 #![tactic(auto)]
+
 mod table; // what each byte alone leaves
 
 ghost use Rattle.std.specs.Prelude.{◌≡◌, ℕ, ◌*◌, List, ◌∷◌};
@@ -83,7 +84,7 @@ pub fn message(id: u8, body: &[u8]) -> u16
 }
 
 // The two bytes of a checksum, as they stand on the line: c1 is the low one.
-#[derive(Drop)]
+#[derive(Clone, Copy)]
 pub struct SumBytes {
     pub c1: u8,
     pub c2: u8,

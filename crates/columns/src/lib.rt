@@ -1,5 +1,6 @@
 // Repeated entries by column: a header stays in front, then come the first bytes of all entries, then their second bytes, and so on.
 #![tactic(auto)]
+
 ghost use Rattle.std.specs.Prelude.{◌≡◌, ◌++◌, ℕ, ◌+◌, ◌*◌, ◌≤◌, ◌<◌, length, take, drop};
 ghost use Rattle.octets.specs.Bytes.{byte};
 ghost use Rattle.octets.specs.Placing.{fits, placed};

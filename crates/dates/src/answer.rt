@@ -2,7 +2,7 @@
 use crate::DateTime;
 
 // A second of a day and the date, both in UTC, or the refusal's number.
-#[derive(Drop)]
+#[derive(Clone, Copy)]
 pub enum Utc {
     Time(DateTime),
     Refused(u8),

@@ -10,7 +10,7 @@ ghost use Rattle.dates.specs.UtcTime.{negative, zone_seconds, falls_on, answer_o
 use answer::Utc;
 use fields_46::{Decoded, Time};
 
-#[derive(Drop)]
+#[derive(Clone, Copy)]
 pub struct Date {
     pub day: u8,
     pub month: u8,
@@ -18,13 +18,13 @@ pub struct Date {
 }
 
 // A date rolled and 0, or the date as it was and why it isn't rolled.
-#[derive(Drop)]
+#[derive(Clone, Copy)]
 pub struct Rolled {
     pub refusal: u8,
     pub date: Date,
 }
 
-#[derive(Drop)]
+#[derive(Clone, Copy)]
 pub struct DateTime {
     pub second: u32, // of the day
     pub date: Date,

@@ -6,7 +6,7 @@ use mathlib.Core.Option.{Option, none, some, some-injective}
 use Prim.Native.Nat.{ℕ}
 use borrow.Author.Tests.{eq-eqb}
 use lib.Dec.{eqb}
-use lib.ListN.{length, take}
+use lib.ListN.{take}
 use Rattle.octets.proofs.DeliveryLaws.{written_judged, written_back, writes}
 use Rattle.octets.specs.declared.Written.{Written}
 use Rattle.kinds.specs.Kinds.{content}

@@ -1,5 +1,6 @@
 // The last step of every encoding: data that is acceptable goes to the buffer that the caller lent.
 #![tactic(auto)]
+
 ghost use Rattle.std.specs.Prelude.{◌≡◌};
 ghost use Rattle.encoding.specs.Encoding.{encoded_of, encoded_into};
 

@@ -10,13 +10,13 @@ ghost use Rattle.fields_20.specs.Fields.{fields_of, rows_of, data_of, decoded_of
 use octets::Written;
 
 // 20h: a satellite of a system.
-#[derive(Drop)]
+#[derive(Clone, Copy)]
 pub struct Satellite {
     pub system: u8,
     pub number: u8,
 }
 
-#[derive(Drop)]
+#[derive(Clone, Copy)]
 pub enum Decoded {
     Fields(Satellite),
     Refused(u8),

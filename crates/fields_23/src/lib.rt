@@ -10,14 +10,14 @@ ghost use Rattle.fields_23.specs.Fields.{fields_of, all_rows, data_of, decoded_o
 use octets::Written;
 
 // 23h: the zone, if the count of bytes is 2.
-#[derive(Drop)]
+#[derive(Clone, Copy)]
 pub struct Zone {
     pub count: usize,
     pub hours: i8,
     pub minutes: i8,
 }
 
-#[derive(Drop)]
+#[derive(Clone, Copy)]
 pub enum Decoded {
     Fields(Zone),
     Refused(u8),

@@ -10,7 +10,7 @@ ghost use Rattle.fields_43.specs.Fields.{result_of, bit_of, result_byte, fields_
 use octets::Written;
 
 // 43h: the result byte's parts.
-#[derive(Drop)]
+#[derive(Clone, Copy)]
 pub struct Outcome {
     pub antenna: u8,
     pub glonass: bool,
@@ -18,7 +18,7 @@ pub struct Outcome {
     pub low: u8,
 }
 
-#[derive(Drop)]
+#[derive(Clone, Copy)]
 pub enum Decoded {
     Fields(Outcome),
     Refused(u8),

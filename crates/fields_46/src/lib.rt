@@ -10,7 +10,7 @@ ghost use Rattle.fields_46.specs.Fields.{fields_of, rows_of, data_of, decoded_of
 use octets::Written;
 
 // 46h: time, date and zone (000, Table 37).
-#[derive(Drop)]
+#[derive(Clone, Copy)]
 pub struct Time {
     pub second: u32, // from the beginning of the week
     pub day: u8,
@@ -20,7 +20,7 @@ pub struct Time {
     pub minutes: i8,
 }
 
-#[derive(Drop)]
+#[derive(Clone, Copy)]
 pub enum Decoded {
     Fields(Time),
     Refused(u8),

@@ -6,7 +6,7 @@ ghost use Rattle.encoding.specs.Entries.{entries_of, entries_data};
 ghost use Rattle.fields_47.specs.Fields.{entry_of, entry_data, uses, data_of, decoded_of};
 
 // A triple of 47h: a satellite, and whether it is used.
-#[derive(Drop)]
+#[derive(Clone, Copy)]
 pub struct Use {
     pub system: u8,
     pub number: u8,
@@ -14,13 +14,13 @@ pub struct Use {
 }
 
 // The fields of 47h.
-#[derive(Drop)]
+#[derive(Clone, Copy)]
 pub struct Uses {
     pub triples: [Use; 56],
 }
 
 // What decoding 47h gives: a refusal with blank fields, or 0 with the fields.
-#[derive(Drop)]
+#[derive(Clone, Copy)]
 pub struct Decoded {
     pub refusal: u8,
     pub fields: Uses,

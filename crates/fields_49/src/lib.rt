@@ -10,7 +10,7 @@ ghost use Rattle.fields_49.specs.Fields.{fields_of_gps, rows_of_gps, data_of_gps
 use octets::Written;
 
 // 49h: ephemeris of a GPS satellite, first byte 1 (000, Table 39).
-#[derive(Drop)]
+#[derive(Clone, Copy)]
 pub struct Gps {
     pub prn: u8, // the satellite
     pub crs: u32,
@@ -39,7 +39,7 @@ pub struct Gps {
 }
 
 // 49h: ephemeris of a GLONASS satellite, first byte 2 (000, Table 39).
-#[derive(Drop)]
+#[derive(Clone, Copy)]
 pub struct Glonass {
     pub number: u8, // n^A, the satellite; 0: unknown
     pub carrier: i8, // H_n^A
@@ -58,7 +58,7 @@ pub struct Glonass {
     pub age: u16, // E_n
 }
 
-#[derive(Drop)]
+#[derive(Clone, Copy)]
 pub enum Decoded {
     Gps(Gps),
     Glonass(Glonass),

@@ -10,7 +10,7 @@ ghost use Rattle.fields_4a.specs.Fields.{fields_of, rows_of, data_of, decoded_of
 use octets::Written;
 
 // 4Ah: ionosphere parameters (000, Table 40).
-#[derive(Drop)]
+#[derive(Clone, Copy)]
 pub struct Ionosphere {
     pub alpha0: u32,
     pub alpha1: u32,
@@ -23,7 +23,7 @@ pub struct Ionosphere {
     pub reliable: u8, // 255: the data is reliable
 }
 
-#[derive(Drop)]
+#[derive(Clone, Copy)]
 pub enum Decoded {
     Fields(Ionosphere),
     Refused(u8),

@@ -10,7 +10,7 @@ ghost use Rattle.fields_4b.specs.Fields.{fields_of, rows_of, data_of, decoded_of
 use octets::Written;
 
 // 4Bh: GPS, GLONASS and UTC time scales (002, Table 48).
-#[derive(Drop)]
+#[derive(Clone, Copy)]
 pub struct Scales {
     pub a0: u64,
     pub a1: u64,
@@ -26,7 +26,7 @@ pub struct Scales {
     pub glonass_reliable: u8, // 255: GLONASS and UTC(SU) are reliable
 }
 
-#[derive(Drop)]
+#[derive(Clone, Copy)]
 pub enum Decoded {
     Fields(Scales),
     Refused(u8),

@@ -6,7 +6,7 @@ ghost use Rattle.encoding.specs.Entries.{entries_of, entries_data};
 ghost use Rattle.fields_52.specs.Fields.{entry_of, entry_data, visibles, data_of, decoded_of, refusal_of};
 
 // An entry of 52h: a satellite, and where it stands.
-#[derive(Drop)]
+#[derive(Clone, Copy)]
 pub struct Entry {
     pub system: u8,
     pub number: u8,
@@ -17,14 +17,14 @@ pub struct Entry {
 }
 
 // The fields of 52h: the first n entries count.
-#[derive(Drop)]
+#[derive(Clone, Copy)]
 pub struct Visible {
     pub n: usize,
     pub entries: [Entry; 75],
 }
 
 // What decoding 52h gives: a refusal with blank fields, or 0 with the fields.
-#[derive(Drop)]
+#[derive(Clone, Copy)]
 pub struct Decoded {
     pub refusal: u8,
     pub fields: Visible,

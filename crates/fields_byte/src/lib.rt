@@ -9,21 +9,21 @@ ghost use Rattle.fields_byte.specs.Fields.{data_of, decoded_of, refusal_of};
 use octets::Written;
 
 // What decoding a kind without data gives: there are no fields.
-#[derive(Drop)]
+#[derive(Clone, Copy)]
 pub enum DecodedEmpty {
     Empty,
     Refused(u8),
 }
 
 // 21h, 24h, 27h, 2Ah, 1Fh, F4h: a byte, if the count is 1.
-#[derive(Drop)]
+#[derive(Clone, Copy)]
 pub struct OneByte {
     pub count: usize,
     pub value: u8,
 }
 
 // What decoding a kind of one byte or none gives.
-#[derive(Drop)]
+#[derive(Clone, Copy)]
 pub enum Decoded {
     Fields(OneByte),
     Refused(u8),

@@ -10,7 +10,7 @@ ghost use Rattle.fields_eb.specs.Fields.{fields_of, rows_of, data_of, decoded_of
 use octets::Written;
 
 // EBh: GLONASS time scale parameters (000, Table 57).
-#[derive(Drop)]
+#[derive(Clone, Copy)]
 pub struct GlonassTime {
     pub tau_c: u64, // from GLONASS time to UTC(SU)
     pub tau_gps: u32, // the fraction of GPS less GLONASS time
@@ -23,7 +23,7 @@ pub struct GlonassTime {
     pub ut1_reliable: u8, // of kp, b1 and b2: not 0 where reliable
 }
 
-#[derive(Drop)]
+#[derive(Clone, Copy)]
 pub enum Decoded {
     Fields(GlonassTime),
     Refused(u8),

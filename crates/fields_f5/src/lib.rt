@@ -8,7 +8,7 @@ ghost use Rattle.encoding.specs.Entries.{entries_of, entries_data};
 ghost use Rattle.fields_f5.specs.Fields.{header_of, rows_of, header_data, entry_of, entry_data, channels, data_of, decoded_of, refusal_of};
 
 // The header of F5h (000, Table 59).
-#[derive(Drop)]
+#[derive(Clone, Copy)]
 pub struct Header {
     pub time: u64, // of the measurements, ms, FP64
     pub week: u16,
@@ -18,7 +18,7 @@ pub struct Header {
 }
 
 // A channel of F5h: what it receives, and the rest of its measurements as they are.
-#[derive(Drop)]
+#[derive(Clone, Copy)]
 pub struct Channel {
     pub signal_type: u8,
     pub number: u8,
@@ -28,7 +28,7 @@ pub struct Channel {
 }
 
 // The fields of F5h: the first n channels count.
-#[derive(Drop)]
+#[derive(Clone, Copy)]
 pub struct Measurements {
     pub header: Header,
     pub n: usize,
@@ -36,7 +36,7 @@ pub struct Measurements {
 }
 
 // What decoding F5h gives: a refusal with blank fields, or 0 with the fields.
-#[derive(Drop)]
+#[derive(Clone, Copy)]
 pub struct Decoded {
     pub refusal: u8,
     pub fields: Measurements,

@@ -1,5 +1,6 @@
 // Lines of hexadecimal text, in upper case: what the test programs read.
 #![tactic(auto)]
+
 ghost use Rattle.std.specs.Prelude.{◌≡◌, ◌+◌, ◌*◌, ◌-◌, ◌≤◌, ◌<◌, length, drop};
 ghost use Rattle.octets.specs.Placing.{placed};
 ghost use Rattle.hexlines.specs.Lines.{line_length, digit_of, parsed};
@@ -8,7 +9,7 @@ ghost use Rattle.hexlines.specs.Lines.{line_length, digit_of, parsed};
 // the first: it is what a caller that cuts the line out needs.
 pub fn line_end(s: &[u8], from: usize) -> usize
     ensures value { result ≡ from + line_length (drop from s.now) }
-    ensures lower_bound { (from ≤ result) × (result ≤ from + (length s.now - from)) }
+    ensures within { (from ≤ result) × (result ≤ from + (length s.now - from)) }
 {
     let mut at = from;
     while at < s.len() {
@@ -51,7 +52,7 @@ fn octet(high: u8, low: u8) -> u8
 pub fn parse(s: &[u8], out: &mut [u8]) -> usize
     ensures value { (result ≡ length (parsed (length out.old) s.now))
         × (out.new ≡ placed out.old 0 (parsed (length out.old) s.now)) }
-    ensures upper_bound { result ≤ length out.new }
+    ensures within { result ≤ length out.new }
 {
     let mut i: usize = 0;
     let mut n: usize = 0;

@@ -17,7 +17,7 @@ const ENABLED: u8 = 1;
 const DISABLED: u8 = 2;
 
 // The word of 47h data and how many of its bits are set; or a refusal, and zeros.
-#[derive(Drop)]
+#[derive(Clone, Copy)]
 pub struct InUse {
     pub refusal: u8,
     pub word: u64,

@@ -15,7 +15,7 @@ pub const CAPACITY: usize = 1024;
 
 // What reading answers: a refusal, or 0 with a message, whose data are the first `length` bytes, and how many bytes its record took.
 // At the end there is no message, and nothing is taken.
-#[derive(Drop)]
+#[derive(Clone, Copy)]
 pub struct Entry {
     pub refusal: u8,
     pub id: u8,
@@ -25,7 +25,7 @@ pub struct Entry {
 }
 
 // The repeated entries of a kind: the bytes before them, and their width; 0 where there are none.
-#[derive(Drop)]
+#[derive(Clone, Copy)]
 struct Layout {
     header: usize,
     width: usize,

@@ -1,5 +1,6 @@
 // The kinds of message, and which messages are acceptable: document 01's questions 10 to 12.
 #![tactic(auto)]
+
 mod table; // questions 10 and 11: the twenty-one kinds and their lengths
 
 ghost use Rattle.std.specs.Prelude.{◌≡◌};
@@ -7,7 +8,7 @@ ghost use Rattle.kinds.specs.Kinds.{table, row_in, listed, allows, chosen_49, le
 
 // A row of the table of kinds: the identifier and the allowed lengths. Without entries (width 0) a length is `short` or `long`;
 // with entries it is `header` and up to `most` times `width`.
-#[derive(Drop)]
+#[derive(Clone, Copy)]
 pub struct Kind {
     pub id: u8,
     pub short: usize,
@@ -29,7 +30,7 @@ pub const LENGTH_4B: usize = 42;
 pub const LENGTH_EB: usize = 26;
 
 // The row of an identifier, if it is listed.
-#[derive(Drop)]
+#[derive(Clone, Copy)]
 enum Listed {
     As(Kind),
     Nothing,

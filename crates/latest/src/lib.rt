@@ -1,5 +1,6 @@
 // The latest message of each kind that is kept (the paper's standing readings): whether they are acceptable, and storing one.
 #![tactic(auto)]
+
 ghost use Rattle.std.specs.Prelude.{◌≡◌, length, take};
 ghost use Rattle.line.specs.Record.{Kept, Fit};
 ghost use Rattle.line.specs.Record.Kept.{k_43, k_46, k_eb};
@@ -9,7 +10,7 @@ ghost use Rattle.latest.specs.Latest.{latest_of, LatestOk, size_for, stored_of};
 use kinds::{LENGTH_4A, LENGTH_4B, LENGTH_43, LENGTH_46, LENGTH_EB};
 
 // The latest message of each kind that is kept: whether there is one, and its data.
-#[derive(Drop)]
+#[derive(Clone, Copy)]
 pub struct Latest {
     pub has43: bool,
     pub d43: [u8; LENGTH_43],

@@ -9,7 +9,7 @@ use borrow.Author.Tests.{ltb-false}
 use lib.Dec.{ltb}
 use lib.ListN.{length, take, get_or, length-append, get_or-append}
 use lib.Seq.{get_or-append-add}
-use Rattle.line.specs.Frame.{Mode, class_of, frame}
+use Rattle.line.specs.Frame.{Mode, class_of}
 use Rattle.line.specs.Table.{State, Event, next, after, events, total, accepts}
 use Rattle.line.specs.Table.State.{W}
 use Rattle.line.specs.Table.Event.{nothing, message, refusal}

@@ -6,7 +6,7 @@ use native.Mathlib.Omega.{arith}
 use lib.ListN.{length, take, get_or, length-append, replicate, length-replicate, get_or-replicate, get_or-append}
 use lib.Seq.{get_or_at}
 use Rattle.line.specs.Frame.{Mode, mode_of}
-use Rattle.line.specs.Table.{Event, pending, after, events, refuses}
+use Rattle.line.specs.Table.{Event, after, events, refuses}
 use Rattle.line.specs.Table.State.{W}
 use Rattle.line.specs.Table.Event.{nothing, message}
 use Rattle.line.specs.Record.{Rec, Kept, limit}

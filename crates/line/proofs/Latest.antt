@@ -58,6 +58,7 @@ latest_to k d (call h c n (message i b j)) e = by (eqb i (id_of k)) refl (latest
         earlier (eqb-false i (id_of k) q) (f (sym (update_other k i b j (stored k h) (eqb-false i (id_of k) q)) ∙ e))
 
 pub latest_from : (k : Kept) (d : List ℕ) (h : History) → LastGiven (id_of k) d h → stored k h ≡ some d
+latest_from k d start l = elim l [ ]
 latest_from k d (call h c n nothing) (earlier g l) = latest_from k d h l
 latest_from k d (call h c n (refusal v i j)) (earlier g l) = latest_from k d h l
 latest_from k d (call h c n (message i b j)) l = by (last_of l) (latest_from k d h)

@@ -6,7 +6,7 @@ use native.Mathlib.Omega.{arith}
 use lib.ListN.{length, take, drop, drop_of_length-le}
 use lib.Seq.{append_snoc, take_all}
 use Rattle.line.specs.Frame.{ETX, Mode, mode_of}
-use Rattle.line.specs.Table.{State, Step, pending, next, after, events}
+use Rattle.line.specs.Table.{State, Step, next, after}
 use Rattle.line.specs.Table.State.{W}
 use Rattle.line.specs.Record.{Rec}
 use Rattle.line.specs.Calls.{History, Trace, taken, Message, line, frames}

@@ -1,6 +1,6 @@
 -- Every list of calls on a fresh reader of mode 0 or 1 has a trace; and the accounts of two readers added still balance.
 use mathlib.Core.List.{List, [], ◌∷◌, ◌++◌, append-nil}
-use mathlib.Core.Path.{◌≡◌, refl, ap, subst, subst⁻¹}
+use mathlib.Core.Path.{◌≡◌, refl, ap, subst⁻¹}
 use Prim.Native.Nat.{ℕ, ◌+◌, ◌≤◌}
 use native.Mathlib.Omega.{arith}
 use borrow.Author.Tests.{le-leb}

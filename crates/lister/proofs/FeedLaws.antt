@@ -19,7 +19,7 @@ use Rattle.reader.proofs.Taking.{passed}
 use Rattle.listing.specs.Text.{longest_event}
 use Rattle.lister.specs.Listing.{line_of, Segment, segment}
 use Rattle.lister.specs.Posts.{event_number, line_shown}
-use Rattle.lister.proofs.SegmentLaws.{walk_mode, walk_possible, walk_fed, walk_some, bytes_ahead, rest, segment_full, segment_limit, segment_walk}
+use Rattle.lister.proofs.SegmentLaws.{walk_mode, walk_possible, walk_fed, walk_some, bytes_ahead, segment_full, segment_limit, segment_walk}
 
 -- the line of an answer, as the code writes it
 abbrev pub line_from : Fed → List ℕ

@@ -1,5 +1,6 @@
 // The listing of bytes: a line for each event that the reader's slice call raises, part by part or whole, and how many there are.
 #![tactic(auto)]
+
 ghost use Rattle.std.specs.Prelude.{true, cond, ◌≡◌, ◌≤◌, ltb, length};
 ghost use Rattle.octets.specs.Placing.{placed};
 ghost use Rattle.octets.specs.Delivery.{written_of, filled_of, Counts};
@@ -15,7 +16,7 @@ use octets::Written;
 use record::{Count, Event, InPlace, Reader};
 
 // What a part of a listing took and wrote.
-#[derive(Drop)]
+#[derive(Clone, Copy)]
 pub struct Part {
     pub reader: Reader,
     pub refusal: u8,
@@ -92,8 +93,8 @@ fn put_line(offset: Count, e: Event, id: u8, closed: Count, buf: &mut [u8]) -> u
 // Lists bytes as long as the buffer has room for a line. A turn that takes nothing is the last: all is listed, there is no room, or
 // the call is refused.
 pub fn list_part(r: Reader, s: &[u8], buf: &mut [u8]) -> Part
-    ensures part_post { PartPost r s.now buf.old result buf.new }
-    ensures taken_in_bounds { (result.taken ≤ length s.now) × Counts result.length buf.new }
+    ensures part { PartPost r s.now buf.old result buf.new }
+    ensures counts { (result.taken ≤ length s.now) × Counts result.length buf.new }
 {
     let mut x = begin(r);
     let mut d = r.bytes;

@@ -1,5 +1,6 @@
 // The text of a listing: the line of an event and the line of the total, written into a buffer that the caller lends.
 #![tactic(auto)]
+
 ghost use Rattle.std.specs.Prelude.{◌∷◌, ◌≡◌, ◌+◌, ◌<◌, ◌≤◌, length};
 ghost use Rattle.octets.specs.Placing.{placed};
 ghost use Rattle.octets.specs.Delivery.{written_of, filled_of, Counts};
@@ -109,7 +110,7 @@ fn put_total(
 pub fn event_line(offset: Count, id: u8, number: u8, closed: Count, buf: &mut [u8]) -> Written
     ensures value { (result ≡ written_of 0 (event_line offset id number closed) buf.old)
         × (buf.new ≡ filled_of 0 (event_line offset id number closed) buf.old) }
-    ensures closed_len_bound { length (event_line offset id number closed) ≤ longest_event }
+    ensures longest { length (event_line offset id number closed) ≤ longest_event }
 {
     if LONGEST_EVENT <= buf.len() {
         return Written {
@@ -133,7 +134,7 @@ pub fn total_line(
 ) -> Written
     ensures value { (result ≡ written_of 0 (total_line fed accepted refused outside pending) buf.old)
         × (buf.new ≡ filled_of 0 (total_line fed accepted refused outside pending) buf.old) }
-    ensures pending_len_bound { length (total_line fed accepted refused outside pending) ≤ longest_total }
+    ensures longest { length (total_line fed accepted refused outside pending) ≤ longest_total }
 {
     if LONGEST_TOTAL <= buf.len() {
         return Written {

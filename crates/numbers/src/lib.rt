@@ -2,6 +2,7 @@
 // Signed numbers: the bits that stand for them in two's complement, and back.
 // The types of the sources' tables that take one byte, read at an offset.
 #![tactic(auto)]
+
 ghost use Rattle.std.specs.Prelude.{◌≡◌, cond, ◌^◌, ◌<◌, leb};
 ghost use Rattle.numbers.specs.Types.{int8u_at, int8s_at};
 ghost use Rattle.numbers.specs.Signed.{int8, int16, unsigned};

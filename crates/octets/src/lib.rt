@@ -1,12 +1,13 @@
 // Bytes: reading one, writing some into a lent buffer, and what every call answers that writes.
 #![tactic(auto)]
+
 ghost use Rattle.std.specs.Prelude.{◌≡◌, ◌+◌, leb, length};
 ghost use Rattle.octets.specs.Bytes.{byte};
 ghost use Rattle.octets.specs.Placing.{fits, placed};
 ghost use Rattle.octets.specs.Delivery.{written_of, filled_of};
 
 // What writing into a lent buffer answers: a refusal, or 0 and the bytes written.
-#[derive(Drop)]
+#[derive(Clone, Copy)]
 pub struct Written {
     pub refusal: u8,
     pub length: usize,

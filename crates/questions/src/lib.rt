@@ -1,5 +1,6 @@
 // Questions 1 to 3: whether a call can use a record.
 #![tactic(auto)]
+
 ghost use Rattle.std.specs.Prelude.{◌≡◌, ◌+◌, ◌≤◌, length, take};
 ghost use Rattle.stuffing.specs.Stuffing.{dles};
 ghost use Rattle.octets.specs.Deciding.{Decides};

@@ -1,6 +1,7 @@
 // The ranges of the fields: question 12 of document 01, in its order. Each test is beside the definition that it decides; a field past
 // the end of the data reads as 0.
 #![tactic(auto)]
+
 ghost use Rattle.std.specs.Prelude.{cond, ◌&&◌, ◌≡◌, eqb};
 ghost use Rattle.numbers.specs.Signed.{int8};
 ghost use Rattle.satellites.specs.Satellites.{between, satellite, carrier};

@@ -18,7 +18,7 @@ use Rattle.line.specs.Table.Event.{refusal}
 use Rattle.line.specs.Record.{state_of}
 use Rattle.line.specs.Record.Place.{at as on}
 use Rattle.record.specs.View.{place_of}
-use Rattle.reader.specs.Moving.{moving_of, one, place_now, turned, verdict_of, Pends, Fits, Moves, went, passed, opened, shut}
+use Rattle.reader.specs.Moving.{moving_of, place_now, turned, verdict_of, Pends, Fits, Moves, went, passed, opened, shut}
 use Rattle.reader.specs.declared.Moving.{Moving}
 use Rattle.reader.specs.declared.Act.TheVariants.{Quiet, Refused, Reopened, Ended}
 use Rattle.reader.proofs.Stepping.{here, quiet_says, closed_says, ended_says, pending_went}

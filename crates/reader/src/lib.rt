@@ -1,6 +1,7 @@
 // The slice call, in place: questions 1 to 3, then the bytes from place to place up to the first event, the end of the slice or the
 // limit, then what that comes to.
 #![tactic(auto)]
+
 ghost use Rattle.std.specs.Prelude.{false, List, ◌≡◌, ℕ, ◌+◌, ◌-◌, ◌<◌, ◌≤◌, length, take};
 ghost use Rattle.std.proofs.Math.Option.{Option};
 ghost use Rattle.line.specs.Frame.{mode_of, judge as judgeOf};
@@ -13,7 +14,7 @@ use latest::Latest;
 use record::{Count, Event, Head, InPlace, Reader};
 
 // The numbers that move in a slice call.
-#[derive(Drop)]
+#[derive(Clone, Copy)]
 pub struct Moving {
     pub place: u8,
     pub id: u8,
@@ -25,7 +26,7 @@ pub struct Moving {
 }
 
 // What is left to do after the numbers have moved.
-#[derive(Drop)]
+#[derive(Clone, Copy)]
 pub enum Act {
     Quiet,
     Refused(u8),
@@ -33,7 +34,7 @@ pub enum Act {
     Ended,
 }
 
-#[derive(Drop)]
+#[derive(Clone, Copy)]
 pub struct Moved {
     pub now: Moving,
     pub act: Act,
@@ -409,7 +410,7 @@ fn start(h: Head) -> Moving
 }
 
 // What an act comes to: the head, the answer's parts, and whether a message was given.
-#[derive(Drop)]
+#[derive(Clone, Copy)]
 pub struct Closed {
     pub head: Head,
     pub event: Event,

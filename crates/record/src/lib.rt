@@ -1,5 +1,6 @@
 // The reader's record, and a fresh one.
 #![tactic(auto)]
+
 ghost use Rattle.std.specs.Prelude.{◌≡◌};
 ghost use Rattle.record.specs.Posts.{FreshPost, blank_record};
 
@@ -9,7 +10,7 @@ use latest::Latest;
 pub type Count = u64;
 
 // The numbers of the record. Mode and place are numbers, so that a wrong one can be refused.
-#[derive(Drop)]
+#[derive(Clone, Copy)]
 pub struct Head {
     pub mode: u8,
     pub place: u8,
@@ -24,7 +25,7 @@ pub struct Head {
     pub fed: Count,
 }
 
-#[derive(Drop)]
+#[derive(Clone, Copy)]
 pub struct Reader {
     pub head: Head,
     pub latest: Latest,
@@ -32,7 +33,7 @@ pub struct Reader {
 }
 
 // Nothing yet, a message, or a refusal by its number.
-#[derive(Drop)]
+#[derive(Clone, Copy)]
 pub enum Event {
     Nothing,
     Message,
@@ -40,7 +41,7 @@ pub enum Event {
 }
 
 // A message's data are the first `len` bytes.
-#[derive(Drop)]
+#[derive(Clone, Copy)]
 pub struct Answer {
     pub event: Event,
     pub id: u8,
@@ -50,21 +51,21 @@ pub struct Answer {
 }
 
 // A fresh reader, or refusal 1 beside a blank record.
-#[derive(Drop)]
+#[derive(Clone, Copy)]
 pub struct Fresh {
     pub refusal: u8,
     pub reader: Reader,
 }
 
 // What a single step returns: the record afterwards, and the answer.
-#[derive(Drop)]
+#[derive(Clone, Copy)]
 pub struct Stepped {
     pub reader: Reader,
     pub answer: Answer,
 }
 
 // What a slice call returns: the same, and how many bytes it took.
-#[derive(Drop)]
+#[derive(Clone, Copy)]
 pub struct Fed {
     pub reader: Reader,
     pub answer: Answer,
@@ -72,7 +73,7 @@ pub struct Fed {
 }
 
 // What a slice call returns that has the record's array lent: the record but for its array, the answer but for its data.
-#[derive(Drop)]
+#[derive(Clone, Copy)]
 pub struct InPlace {
     pub head: Head,
     pub latest: Latest,

@@ -1,6 +1,7 @@
 // Satellites by system and number, as 20h, 47h and 52h name them: which there are, the place of each among the 56, sets of them, and
 // carrier numbers.
 #![tactic(auto)]
+
 ghost use Rattle.std.specs.Prelude.{cond, ◌≡◌, eqb, ltb};
 ghost use Rattle.satellites.specs.Satellites.{satellite, place_of, visible, carrier};
 ghost use Rattle.satellites.specs.Sets.{bit, with_bit};

@@ -1,5 +1,6 @@
 // The byte 10h that stuffing doubles.
 #![tactic(auto)]
+
 ghost use Rattle.std.specs.Prelude.{◌≡◌};
 ghost use Rattle.stuffing.specs.Stuffing.{dles, four_plain};
 

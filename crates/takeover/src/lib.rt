@@ -6,7 +6,7 @@ use latest::Latest;
 use record::{Count, Head, Reader};
 
 // The record as it was: today's, with counts of 32 bits.
-#[derive(Drop)]
+#[derive(Clone, Copy)]
 pub struct Head32 {
     pub mode: u8,
     pub place: u8,
@@ -21,7 +21,7 @@ pub struct Head32 {
     pub fed: u32,
 }
 
-#[derive(Drop)]
+#[derive(Clone, Copy)]
 pub struct Reader32 {
     pub head: Head32,
     pub latest: Latest,
@@ -29,7 +29,7 @@ pub struct Reader32 {
 }
 
 // A reader that goes on, or the refusal beside a record by which no byte can be read.
-#[derive(Drop)]
+#[derive(Clone, Copy)]
 pub struct TakenOver {
     pub refusal: u8,
     pub reader: Reader,

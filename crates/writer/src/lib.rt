@@ -1,5 +1,6 @@
 // The frame of a message, written into a buffer that the caller lends.
 #![tactic(auto)]
+
 ghost use Rattle.std.specs.Prelude.{◌≡◌, ◌∷◌, [], ℕ, ◌+◌, ◌≤◌, length};
 ghost use Rattle.stuffing.specs.Stuffing.{stuffed};
 ghost use Rattle.octets.specs.Placing.{placed};

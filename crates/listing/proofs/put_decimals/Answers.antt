@@ -1,0 +1,54 @@
+-- `put_decimals` meets its contract. The loop's invariant: placing the numbers still to go is placing all of them.
+use mathlib.Core.Path.{◌≡◌, sym, ap, ◌∙◌}
+use mathlib.Core.List.{List, [], ◌∷◌, ◌++◌}
+use Prim.Native.Nat.{ℕ, suc, ◌+◌, ◌≤◌, ◌<◌}
+use native.Mathlib.Numerals.{add-one}
+use native.Mathlib.Omega.{arith}
+use lib.ListN.{length, drop, get_or, length-append}
+use lib.Seq.{drop-cons, drop-length}
+use Rattle.octets.specs.Placing.{placed}
+use Rattle.octets.proofs.PlacingLaws.{placed_nil, placed_more, length_placed}
+use Rattle.listing.specs.Text.{space, decimal, decimals}
+use Rattle.listing.proofs.DecimalLaws.{decimals_nil, decimals_cons}
+use Rattle.listing.proofs.put_decimals.Goals as goal
+
+-- the number at i, and those after it
+first : (s : List ℕ) (i : ℕ) → i < length s → decimals (drop i s) ≡ (space ∷ decimal (get_or s i 0)) ++ decimals (drop (i + 1) s)
+first s i h = rw add-one (ap decimals (drop-cons s i 0 h) ∙ decimals_cons (get_or s i 0) (drop (suc i) s))
+
+first-length : (s : List ℕ) (i : ℕ) → i < length s
+    → length (decimals (drop i s)) ≡ length (space ∷ decimal (get_or s i 0)) + length (decimals (drop (i + 1) s))
+first-length s i h = ap length (first s i h) ∙ length-append (space ∷ decimal (get_or s i 0)) (decimals (drop (i + 1) s))
+
+-- nothing is left
+none : (s : List ℕ) (i : ℕ) → i ≡ length s → decimals (drop i s) ≡ []
+none s i e = ap (λ (k : ℕ). decimals (drop k s)) e ∙ ap decimals (drop-length s) ∙ decimals_nil
+
+pub put_next-to-requires : goal.put_next-to-requires
+put_next-to-requires c =
+    let h : c.loop-i.i < length c.args.numbers.now = omega arith in
+    omega (arith, first-length c.args.numbers.now c.loop-i.i h, c.loop-i.invariant.1, c.loop-i.invariant.2, c.requires)
+
+pub loop-i-preserved : goal.loop-i-preserved
+loop-i-preserved c =
+    let s = c.args.numbers.now in
+    let i = c.loop-i.i in
+    let b : List ℕ = space ∷ decimal (get_or s i 0) in
+    let rest : List ℕ = decimals (drop (i + 1) s) in
+    let h : i < length s = omega arith in
+    let n = first-length s i h in
+    let room : c.loop-i.to + length b + length rest ≤ length c.loop-i.buf = omega (arith, n, c.loop-i.invariant.1, c.loop-i.invariant.2, c.requires) in (
+      omega arith,
+      ap length c.put_next-to.ensures.1 ∙ length_placed c.loop-i.buf c.loop-i.to b ∙ c.loop-i.invariant.1,
+      omega (arith, n, c.put_next-to.ensures.0, c.loop-i.invariant.2),
+      (λ j. placed (c.put_next-to.ensures.1 j) (c.put_next-to.ensures.0 j) rest)
+          ∙ placed_more c.loop-i.buf c.loop-i.to b rest room
+          ∙ ap (placed c.loop-i.buf c.loop-i.to) (sym (first s i h))
+          ∙ c.loop-i.invariant.3,
+    )
+
+pub returns : goal.returns
+returns c =
+    let s = c.args.numbers.now in
+    let e = none s c.loop-i.i (omega arith) in
+    (omega (arith, ap length e, c.loop-i.invariant.2), sym (placed_nil c.loop-i.buf c.loop-i.to) ∙ (rw e at c.loop-i.invariant.3))
