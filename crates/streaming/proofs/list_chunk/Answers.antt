@@ -11,10 +11,10 @@ returns-then-p-eq0 c =
     let i = c.loop-at.invariant in
     let k : longest_event ≤ length c.loop-at.lines = omega (arith, i.same, c.requires.1) in
     let e = c.list_part-p.ensures in
-    let b = e.taken_in_bounds in
+    let b = e.counts in
     let w =
-        took c.loop-at.g c.args.s.now c.loop-at.at c.loop-at.lines c.list_part-p.result c.list_part-p.new.buf i.good k i.within
-        e.part_post b.0 b.1
+    took c.loop-at.g c.args.s.now c.loop-at.at c.loop-at.lines c.list_part-p.result c.list_part-p.new.buf i.good k i.within
+    e.part b.0 b.1
     in
     record {
       good = w.good;
@@ -27,9 +27,9 @@ loop-at-preserved c =
     let i = c.loop-at.invariant in
     let k : longest_event ≤ length c.loop-at.lines = omega (arith, i.same, c.requires.1) in
     let e = c.list_part-p.ensures in
-    let b = e.taken_in_bounds in
+    let b = e.counts in
     let w =
-        took c.loop-at.g c.args.s.now c.loop-at.at c.loop-at.lines c.list_part-p.result c.list_part-p.new.buf i.good k i.within
-        e.part_post b.0 b.1
+    took c.loop-at.g c.args.s.now c.loop-at.at c.loop-at.lines c.list_part-p.result c.list_part-p.new.buf i.good k i.within
+    e.part b.0 b.1
     in
     record { within = w.within; same = search rules; good = w.good; rest = i.rest ∙ w.left }
