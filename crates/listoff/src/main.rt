@@ -1,5 +1,6 @@
 // Lists the events of the bytes on standard input, whose frames have no checksum.
 #![tactic(auto)]
-fn main() {
-    streaming::list_input(0);
+
+fn main(rt: HostRuntime) {
+    streaming::list_input(rt, 0);
 }

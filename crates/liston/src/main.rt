@@ -1,5 +1,6 @@
 // Lists the events of the bytes on standard input, whose frames have a checksum.
 #![tactic(auto)]
-fn main() {
-    streaming::list_input(1);
+
+fn main(rt: HostRuntime) {
+    streaming::list_input(rt, 1);
 }

@@ -9,7 +9,6 @@ use lib.Dec.{leb}
 use lib.IntN.{ℤ, pos, negsuc}
 use lib.Signed.{le_z}
 use lib.ListN.{length}
-use Rattle.libc.specs.Io.{Moved, Status}
 use Rattle.io.specs.Counts.{clamp_len}
 use Rattle.line.specs.Record.{Rec, Fresh, limit, fresh}
 use Rattle.line.specs.Record.Fresh.{made, refused}
@@ -21,7 +20,7 @@ use Rattle.streaming.specs.declared.Chunk.{Chunk}
 use Rattle.streaming.specs.declared.Reads.{Reads}
 use Rattle.streaming.specs.declared.Ended.{Ended}
 use Rattle.streaming.specs.Through.{Through, until, through}
-use Rattle.streaming.specs.Posts.{through_of, ReadsPost, TotalPost, InputPost}
+use Rattle.streaming.specs.Posts.{Moved, Status, through_of, ReadsPost, TotalPost, InputPost}
 use Rattle.streaming.proofs.ThroughLaws.{through_more, through_fed, through_limit, through_below}
 
 -- between two reads: the bytes of those before were all counted

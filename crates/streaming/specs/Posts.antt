@@ -1,6 +1,5 @@
 -- What the calls return. No contract can say which bytes a read brings, nor what becomes of those that are written.
-use Rattle.std.specs.Prelude.{true, false, List, ◌≡◌, ℕ, ◌+◌, ◌<◌, pos, length, take, replicate}
-use Rattle.libc.specs.Io.{Status}
+use Rattle.std.specs.Prelude.{true, false, List, ◌≡◌, ℕ, ◌+◌, ◌<◌, ◌≤◌, ℤ, pos, negsuc, length, take, replicate}
 use Rattle.line.specs.Record.{Rec, fresh}
 use Rattle.line.specs.Record.Fresh.{made}
 use Rattle.record.specs.declared.Reader.{Reader}
@@ -12,6 +11,16 @@ use Rattle.streaming.specs.declared.Chunk.{Chunk}
 use Rattle.streaming.specs.declared.Reads.{Reads}
 use Rattle.streaming.specs.declared.Ended.{Ended}
 use Rattle.streaming.specs.Through.{Through, until, through}
+
+-- what a read may answer that is handed n bytes: -1, or how many bytes it brought, at most n
+abbrev pub Moved : ℕ → ℤ → Type 0
+Moved n (pos k) = k ≤ n
+Moved n (negsuc k) = k ≡ 0
+
+-- what the last read answered: 0, or -1
+abbrev pub Status : ℤ → Type 0
+Status (pos k) = k ≡ 0
+Status (negsuc k) = k ≡ 0
 
 -- what is seen of a chunk
 abbrev pub through_of : Chunk → Through

@@ -1,14 +1,16 @@
 // Lists standard input as it comes in: what the two programs do. The lines of each read are written before the next.
 #![tactic(auto)]
+
 ghost use Rattle.std.specs.Prelude.{true, ◌≡◌, ◌≤◌, length};
-ghost use Rattle.libc.specs.Io.{Moved};
 ghost use Rattle.record.specs.View.{view};
 ghost use Rattle.listing.specs.Text.{longest_event};
 ghost use Rattle.lister.specs.Posts.{Good};
-ghost use Rattle.streaming.specs.Posts.{ChunkPost, ReadsPost, TotalPost, ListedPost, unread_of};
+ghost use Rattle.streaming.specs.Posts.{Moved, ChunkPost, ReadsPost, TotalPost, ListedPost, unread_of};
 
 use listing::LONGEST_TOTAL;
 use record::Reader;
+use std::env::{Env, FillError};
+use std::io::{Error, ErrorKind, Read, Stdin, Write};
 
 // The reader after a chunk, 3 where a byte of it can't be counted, and whether its lines were written.
 #[derive(Clone, Copy)]
@@ -75,35 +77,51 @@ fn list_chunk(r: Reader, s: &[u8], lines: &mut [u8]) -> Chunk
     }
 }
 
-// Reads once, and again where a signal interrupted it.
-fn read_some(bytes: &mut [u8]) -> isize
+// How long the system's reason is, without the number that std writes behind it.
+fn reason_length(text: &[u8]) -> usize
+    ensures { result ≤ length text.now }
+{
+    for n in 0..text.len() {
+        if text[n..].starts_with(b" (os error ") {
+            return n;
+        }
+    }
+    text.len()
+}
+
+// An input that could not be read to its end does not look like one that was.
+fn say_error(error: Error) {
+    let mut text = [0u8; 256];
+    let mut rest = &mut text[..];
+    let _ = write!(rest, "{error}");
+    let n = 256usize.saturating_sub(rest.len());
+    io::write_all(2, b"The input ended by an error: ");
+    io::write_all(2, &text[..reason_length(&text[..n])]);
+    io::write_all(2, b"\n");
+}
+
+// Reads once, and again where a signal interrupted it. A read that fails is said, and answered by -1.
+fn read_some(input: Stdin, bytes: &mut [u8]) -> isize
     ensures { Moved (length bytes.old) result }
 {
+    let mut input = input;
     let mut turns = u64::MAX;
     loop {
-        let got = libc::read(0, bytes);
-        if got >= 0 {
-            return got;
-        }
-        if os::errno() != libc::EINTR {
-            return got;
-        }
-        if turns == 0 {
-            return got;
+        match input.read(bytes) {
+            Ok(n) => return n as isize,
+            Err(e) => {
+                if e.kind() != ErrorKind::Interrupted || turns == 0 {
+                    say_error(e);
+                    return -1;
+                }
+            }
         }
         turns -= 1;
     }
 }
 
-// An input that could not be read to its end does not look like one that was.
-fn say_error(got: isize) {
-    if got < 0 {
-        os::fail(b"The input ended by an error");
-    }
-}
-
 // Lists what each read brings, until one brings nothing. Before the first, nothing is read or written.
-fn list_reads(first: Chunk) -> Reads
+fn list_reads(input: Stdin, first: Chunk) -> Reads
     requires { Good first.reader × (first.reader.head.fed ≡ 0) × (first.refusal ≡ 0) }
     ensures { ReadsPost (view first.reader) result }
 {
@@ -112,9 +130,9 @@ fn list_reads(first: Chunk) -> Reads
     let mut lines = io::large_buffer();
     let mut read: usize = 0;
     loop {
-        let got = read_some(&mut bytes);
-        if got <= 0 {
-            say_error(got);
+        let got = read_some(input, &mut bytes);
+        let ended = got <= 0;
+        if ended {
             return Reads {
                 chunk: c,
                 read: read,
@@ -132,7 +150,8 @@ fn list_reads(first: Chunk) -> Reads
                 last: got,
             };
         }
-        if c.refusal != 0 {
+        let refused = c.refusal != 0;
+        if refused {
             return Reads {
                 chunk: c,
                 read: read,
@@ -201,32 +220,34 @@ fn unread(r: Reader, refusal: u8) -> Ended
     }
 }
 
-// Names an argument, or the first bytes of one that is longer than the buffer.
-fn say_unknown(i: usize) {
-    let mut word = io::buffer();
-    let n = os::arg(i, &mut word);
-    let too_long = os::errno() == libc::ENAMETOOLONG;
+fn say_word(word: &[u8]) {
     io::write_all(2, b"This argument is not known: ");
-    if too_long {
-        io::write_all(2, &word);
-    } else {
-        io::write_all(2, &word[..n]);
-    }
+    io::write_all(2, word);
     io::write_all(2, b"\n");
 }
 
+// Names an argument, or the first bytes of one that is longer than the buffer. It answers whether there is one.
+fn say_unknown(rt: HostRuntime, i: usize) -> bool {
+    let mut word = io::buffer();
+    match rt.arg(i, &mut word) {
+        Ok(n) => say_word(&word[..n]),
+        Err(FillError::TooLong) => say_word(&word),
+        Err(FillError::NotPresent) => return false,
+    }
+    true
+}
+
 // The programs know no argument, and go on without.
-fn say_arguments() {
-    let count = os::arg_count();
-    let mut i: usize = 1;
-    while i < count {
-        say_unknown(i);
-        i += 1;
+fn say_arguments(rt: HostRuntime) {
+    for i in 1..usize::MAX {
+        if !say_unknown(rt, i) {
+            return;
+        }
     }
 }
 
 // Lists standard input by a fresh reader of a mode, and prints the total.
-pub fn list_input(mode: u8) -> Ended
+pub fn list_input(rt: HostRuntime, mode: u8) -> Ended
     ensures { ListedPost mode result }
 {
     let f = Reader::fresh(mode);
@@ -234,11 +255,12 @@ pub fn list_input(mode: u8) -> Ended
     if f.refusal != 0 {
         return unread(r, f.refusal);
     }
-    say_arguments();
-    let x = list_reads(Chunk {
+    say_arguments(rt);
+    let first = Chunk {
         reader: r,
         refusal: 0,
         written: true,
-    });
+    };
+    let x = list_reads(rt.stdin(), first);
     print_total(x)
 }
