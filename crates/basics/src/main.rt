@@ -23,6 +23,7 @@
 //
 // A call's line has its number and its answers, in this order; where it fills a buffer, that is last, up to four bytes past the room.
 #![tactic(auto)]
+
 use latest::Latest;
 use record::{Head, Reader};
 
@@ -260,8 +261,6 @@ fn run_refusals() {
         refusals::NO_SATELLITE,
         refusals::DATE,
         refusals::LIST,
-        refusals::MARK,
-        refusals::SHORT,
     ];
     decimals(&all);
 }

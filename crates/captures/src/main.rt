@@ -6,6 +6,7 @@
 // Events and records are compared by a sum of all that is printed of them. What prints them also sums, so that a cut, which is not
 // to be printed, goes the same way: `loud` says whether to print.
 #![tactic(auto)]
+
 ghost use Rattle.std.specs.Prelude.{◌≤◌};
 
 use latest::Latest;

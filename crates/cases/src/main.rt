@@ -17,6 +17,7 @@
 // refusal of taking over, the record's place and counts; and that second line. The writer's line has its refusal, the length, and the
 // buffer up to four bytes past the room. Identifiers, c1, c2 and data are in hexadecimal.
 #![tactic(auto)]
+
 use latest::Latest;
 use record::{Answer, Event, Head, Reader};
 use takeover::{Head32, Reader32};

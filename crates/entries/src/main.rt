@@ -13,6 +13,7 @@
 // refused, the refusal and the length of writing its word into the room; one of 02 has those of writing the word and, where it is not
 // refused, the refusal, the word and the count of the 168 bytes written. Both end with the buffer.
 #![tactic(auto)]
+
 use fields_47::{Use, Uses};
 use fields_52::{Entry, Visible};
 use fields_f5::{Channel, Header, Measurements};

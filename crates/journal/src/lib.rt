@@ -1,5 +1,6 @@
 // The journal of given messages: records one after the other in a buffer, the repeated entries of a message by column.
 #![tactic(auto)]
+
 ghost use Rattle.std.specs.Prelude.{◌≡◌, ◌+◌, ◌≤◌, ◌<◌, length};
 ghost use Rattle.octets.specs.Placing.{placed};
 ghost use Rattle.numbers.specs.Number.{number_at};

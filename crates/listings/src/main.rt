@@ -14,6 +14,7 @@
 // A call's line has its number and its answer; of 09 that is refusal, taken and length, then the five counts afterwards. Where it
 // fills a buffer, that follows, of Z before the call, up to four bytes past the room.
 #![tactic(auto)]
+
 use octets::Written;
 use record::{Count, Head, Reader};
 

@@ -11,6 +11,7 @@
 // refusal of the data and, where there is none, the fields, the wide ones first, signed ones last, FP fields as their bits; then the
 // refusal and the length of the encoding, and last the buffer up to four bytes past the room.
 #![tactic(auto)]
+
 ghost use Rattle.std.specs.Prelude.{not, ◌≡◌, T};
 ghost use Rattle.std.specs.Float.Ieee.{is_nan};
 ghost use Rattle.dates.specs.Dates.{forward_of, back_of};

@@ -1,5 +1,6 @@
 // Records of readers that counted in 32 bits, and the call that takes one over.
 #![tactic(auto)]
+
 ghost use Rattle.takeover.specs.Takeover.{TakeOverPost};
 
 use latest::Latest;

@@ -7,7 +7,6 @@ use Rattle.batch.specs.Entries.{contents_of}
 use Rattle.batch.proofs.TimeLaws.{time_from}
 use Rattle.batch.proofs.line_time.Given as goal
 
--- `line_time` meets its contract. The loop's invariant: the time of the list is that of what is left, after the bytes so far.
 abbrev pub invariant-loop-at : goal.invariant-loop-at
 invariant-loop-at l =
     (l.at ≤ length l.list) × (l.bytes ≤ 3 * l.at)

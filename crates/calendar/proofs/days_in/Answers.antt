@@ -7,7 +7,6 @@ use lib.Dec.{eqb, leb}
 use Rattle.calendar.specs.Calendar.{leap, days_in}
 use Rattle.calendar.proofs.days_in.Goals as goal
 
--- `days_in` meets its contract: test by test, in the definition's order.
 -- the days of a month, by what the tests answer
 tested : (m y : ℕ) (a b c d : Bool) → eqb m 2 ≡ a → leap y ≡ b → eqb m 4 || eqb m 6 || eqb m 9 || eqb m 11 ≡ c
     → leb 1 m && leb m 12 ≡ d → cond a (cond b 29 28) (cond c 30 (cond d 31 0)) ≡ days_in m y

@@ -3,7 +3,6 @@ use Prim.Native.Nat.{◌+◌, ◌-◌, ◌≤◌}
 use lib.ListN.{length}
 use Rattle.captures.proofs.compare_all.Given as goal
 
--- `captures::compare_all`: a turn for each cut.
 abbrev pub invariant-loop-cut : goal.invariant-loop-cut
 invariant-loop-cut l = l.cut ≤ length l.s + 1
 

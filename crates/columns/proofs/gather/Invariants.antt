@@ -6,7 +6,6 @@ use Rattle.octets.specs.Placing.{placed}
 use Rattle.encoding.specs.Entries.{firsts}
 use Rattle.columns.proofs.gather.Given as goal
 
--- `gather` meets its contract. The loop's invariant: the first i bytes are placed.
 abbrev pub invariant-loop-i : goal.invariant-loop-i
 invariant-loop-i l = (l.i ≤ l.n) × (l.buf ≡ placed l.initial.buf l.at (firsts (λ k. byte l.src (l.from + l.step * k)) l.i))
 

@@ -12,18 +12,18 @@ use Rattle.dates.proofs.from_fields.Goals as goal
 use Rattle.dates.proofs.from_fields.Goals.{After-from_day_before-second, Start}
 
 module _ (c : Start) where
-  hours-fit : SFits w8 c.args.f.hours
-  hours-fit = search rules
+  hours_fit : SFits w8 c.args.f.hours
+  hours_fit = search rules
 
-  minutes-fit : SFits w8 c.args.f.minutes
-  minutes-fit = search rules
+  minutes_fit : SFits w8 c.args.f.minutes
+  minutes_fit = search rules
 
-  same-zone : zone_seconds (to_z w8 (of_z w8 c.args.f.hours)) (to_z w8 (of_z w8 c.args.f.minutes)) ≡ zone_seconds c.args.f.hours c.args.f.minutes
-  same-zone = λ k. zone_seconds (to_z-of_z w8 c.args.f.hours hours-fit k) (to_z-of_z w8 c.args.f.minutes minutes-fit k)
+  same_zone : zone_seconds (to_z w8 (of_z w8 c.args.f.hours)) (to_z w8 (of_z w8 c.args.f.minutes)) ≡ zone_seconds c.args.f.hours c.args.f.minutes
+  same_zone = λ k. zone_seconds (to_z-of_z w8 c.args.f.hours hours_fit k) (to_z-of_z w8 c.args.f.minutes minutes_fit k)
 
 second_is : (c : After-from_day_before-second) → let f = c.args.f in
     pos c.from_day_before-second.result ≡ pos (86400 + local_second f) -ℤ zone_seconds f.hours f.minutes
-second_is c = c.from_day_before-second.ensures.0 ∙ ap (λ (z : ℤ). pos (86400 + local_second c.args.f) -ℤ z) (same-zone (goal.at.day_of-r-requires c).Start)
+second_is c = c.from_day_before-second.ensures.0 ∙ ap (λ (z : ℤ). pos (86400 + local_second c.args.f) -ℤ z) (same_zone (goal.at.day_of-r-requires c).Start)
 
 pub day_of-r-requires : goal.day_of-r-requires
 day_of-r-requires c = search rules

@@ -22,8 +22,8 @@ zeros = replicate 987 0
 top : (c : After-put) → c.put.new.buf ≡ placed zeros 0 (header_data c.args.h)
 top c = c.put.ensures.1 ∙ ap (placed zeros 0) c.header_data.ensures
 
-long-top : (c : After-put) → length c.put.new.buf ≡ 987
-long-top c = ap length c.put.ensures.1 ∙ length_placed zeros 0 _
+long_top : (c : After-put) → length c.put.new.buf ≡ 987
+long_top c = ap length c.put.ensures.1 ∙ length_placed zeros 0 _
 
 most : (c : Start) → length c.args.entries ≡ 32
 most c = search rules
@@ -45,7 +45,7 @@ loop-k-preserved c =
     let long : Long channels es (k + 1) = long_more channels es k c.loop-k.invariant.1 (sym (ap length e) ∙ full (goal.at.loop-k-preserved c).After-entry_data-d) in (
       omega arith,
       long,
-      c.put-in-loop-k.ensures.1 ∙ laid_more channels _ es k (27 + 30 * k) long refl (omega (arith, long-top (goal.at.loop-k-preserved c).After-put)) _ c.loop-k.invariant.2 _ e,
+      c.put-in-loop-k.ensures.1 ∙ laid_more channels _ es k (27 + 30 * k) long refl (omega (arith, long_top (goal.at.loop-k-preserved c).After-put)) _ c.loop-k.invariant.2 _ e,
     )
 
 pub returns : goal.returns
@@ -56,6 +56,6 @@ returns c =
     let front : take 27 (placed zeros 0 (header_data h)) ≡ header_data h =
     ap (λ (n : ℕ). take n (placed zeros 0 (header_data h))) (sym (length_header h)) ∙ placed_back zeros (header_data h) (omega (arith, length_header h)) in
     rw (c.loop-k.invariant.2, e)
-    (laid_done channels _ c.args.entries c.args.n long (omega (arith, long-top (goal.at.returns c).After-put))
+    (laid_done channels _ c.args.entries c.args.n long (omega (arith, long_top (goal.at.returns c).After-put))
     ∙ ap (λ (d : List ℕ). take 27 d ++ entries_data channels c.args.entries c.args.n) (top (goal.at.returns c).After-put)
     ∙ ap (λ (d : List ℕ). d ++ entries_data channels c.args.entries c.args.n) front)

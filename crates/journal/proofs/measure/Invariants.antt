@@ -6,7 +6,6 @@ use Rattle.batch.specs.Entries.{contents_of}
 use Rattle.journal.proofs.WritingLaws.{measured_from}
 use Rattle.journal.proofs.measure.Given as goal
 
--- `measure` meets its contract. The loop's invariant: the list measures what is left of it, after the bytes so far.
 abbrev pub invariant-loop-at : goal.invariant-loop-at
 invariant-loop-at l =
     (l.at ≤ length l.list) × (l.length ≤ 3 * l.at)

@@ -21,10 +21,10 @@ headed c =
     c.put.ensures.1 ∙ ap (placed a.buf.now a.at) c.head-top.ensures
 
 -- and then the data by column
-by-column : (c : After-to_columns)
+by_column : (c : After-to_columns)
     → let a = c.args in
     c.to_columns.new.buf ≡ placed c.put.new.buf (a.at + 5) (stored a.id a.body.now)
-by-column c =
+by_column c =
     let a = c.args in
     c.to_columns.ensures.1
     ∙ ap (λ (l : Layout). placed c.put.new.buf (a.at + 5) (by_columns l.header l.width a.body.now)) c.layout_of-l.ensures
@@ -33,6 +33,6 @@ pub returns : goal.returns
 returns c =
     let a = c.args in
     let x : Entry = record { id = a.id; body = a.body.now } in
-    by-column (goal.at.returns c).After-to_columns
+    by_column (goal.at.returns c).After-to_columns
     ∙ ap (λ (b : List ℕ). placed b (a.at + 5) (stored x.id x.body)) (headed (goal.at.returns c).After-put)
     ∙ record_placed x a.buf.now a.at c.requires.1

@@ -8,7 +8,6 @@ use Rattle.batch.specs.Entries.{contents_of}
 use Rattle.journal.proofs.WritingLaws.{Entire, left_of}
 use Rattle.journal.proofs.put_records.Given as goal
 
--- `put_records` meets its contract. The loop's invariant: what is left of the list is not refused, it fits, and with its records placed
 -- the buffer is what it is to be.
 abbrev pub invariant-loop-at : goal.invariant-loop-at
 invariant-loop-at l =

@@ -34,11 +34,11 @@ fits c =
     omega arith
 
 -- so that what is judged is the data in line order
-judged-data : (c : After-content-refusal) →
+judged_data : (c : After-content-refusal) →
     let a = c.args in
     c.to_rows.new.buf ≡ placed (replicate 1024 0) 0 (restored a.id a.body.now) → length a.body.now ≤ 1024
     → c.content-refusal.result ≡ content a.id (restored a.id a.body.now)
-judged-data c o h =
+judged_data c o h =
     let a = c.args in
     let d : List ℕ = restored a.id a.body.now in
     let n : length d ≡ length a.body.now = length_restored a.id a.body.now in
@@ -56,7 +56,7 @@ returns-then-not-to_rows c =
 pub returns-then-refusal-ne0 : goal.returns-then-refusal-ne0
 returns-then-refusal-ne0 c =
     let a = c.args in
-    let e = judged-data (goal.at.returns-then-refusal-ne0 c).After-content-refusal (in_order (goal.at.returns-then-refusal-ne0 c).After-to_rows) (fits (goal.at.returns-then-refusal-ne0 c).Else-not-to_rows) in
+    let e = judged_data (goal.at.returns-then-refusal-ne0 c).After-content-refusal (in_order (goal.at.returns-then-refusal-ne0 c).After-to_rows) (fits (goal.at.returns-then-refusal-ne0 c).Else-not-to_rows) in
     c.nothing-then-refusal-ne0.ensures
     ∙ ap nothing e
     ∙ sym (judged_refused (content a.id (restored a.id a.body.now)) a.id (restored a.id a.body.now) (λ z. c.if-refusal-ne0.true (e ∙ z)))
@@ -67,4 +67,4 @@ returns c =
     let d : List ℕ = restored a.id a.body.now in
     let n : length a.body.now ≡ length d = sym (length_restored a.id a.body.now) in
     (λ k. record { refusal = 0; id = a.id; length = n k; taken = 5 + n k; bytes = in_order (goal.at.returns c).After-to_rows k })
-    ∙ sym (judged_given (content a.id d) a.id d (sym (judged-data (goal.at.returns c).After-content-refusal (in_order (goal.at.returns c).After-to_rows) (fits (goal.at.returns c).Else-not-to_rows)) ∙ c.if-refusal-ne0.false))
+    ∙ sym (judged_given (content a.id d) a.id d (sym (judged_data (goal.at.returns c).After-content-refusal (in_order (goal.at.returns c).After-to_rows) (fits (goal.at.returns c).Else-not-to_rows)) ∙ c.if-refusal-ne0.false))

@@ -6,7 +6,6 @@ use Rattle.kinds.specs.Kinds.{table, row_in}
 use Rattle.kinds.proofs.RowLaws.{kinds_of}
 use Rattle.kinds.proofs.find_kind.Given as goal
 
--- `find_kind` meets its contract: the code's table is that of the definitions, and the rows passed do not have the identifier.
 abbrev pub invariant-loop-i : goal.invariant-loop-i
 invariant-loop-i l = (l.i ≤ 21) × (row_in (drop l.i table) l.id ≡ row_in table l.id) × (l.kinds ≡ kinds_of table)
 

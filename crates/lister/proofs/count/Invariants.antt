@@ -5,7 +5,6 @@ use Rattle.record.specs.View.{record_of}
 use Rattle.lister.proofs.CountLaws.{Tally}
 use Rattle.lister.proofs.count.Given as goal
 
--- `count` meets its contract. The loop's invariant is `Tally`; each turn takes a byte or is the last.
 abbrev pub invariant-loop-x : goal.invariant-loop-x
 invariant-loop-x l = Tally (record_of l.initial.x.head l.initial.x.latest l.initial.d) l.s (record_of l.x.head l.x.latest l.d) l.at l.events
 

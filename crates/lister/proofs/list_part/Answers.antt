@@ -16,8 +16,8 @@ use Rattle.lister.proofs.Turns.{turn_none, part_offered, part_placed, turn_withi
 use Rattle.lister.proofs.list_part.Goals as goal
 use Rattle.lister.proofs.list_part.Goals.{After-feed_in_place-x, After-put_line-to, Else-x-eq0, Start}
 
-start-whole : (c : Start) → length c.args.r.bytes ≡ 1024
-start-whole c = search rules
+start_whole : (c : Start) → length c.args.r.bytes ≡ 1024
+start_whole c = search rules
 
 -- what the slice call was given, and answered
 fed : (c : After-feed_in_place-x)
@@ -49,7 +49,7 @@ fits c =
     omega (arith, c.put_line-to.ensures.2, lent c.loop-x.buf c.loop-x.to, c.loop-x.invariant.0.room)
 
 pub loop-x-init : goal.loop-x-init
-loop-x-init c = (turn_none _ _ _, start-whole (goal.at.loop-x-init c).Start)
+loop-x-init c = (turn_none _ _ _, start_whole (goal.at.loop-x-init c).Start)
 
 pub returns-then-x-eq0 : goal.returns-then-x-eq0
 returns-then-x-eq0 c =

@@ -16,9 +16,9 @@ use Rattle.listing.proofs.put_decimals.Goals as goal
 first : (s : List ℕ) (i : ℕ) → i < length s → decimals (drop i s) ≡ (space ∷ decimal (get_or s i 0)) ++ decimals (drop (i + 1) s)
 first s i h = rw add-one (ap decimals (drop-cons s i 0 h) ∙ decimals_cons (get_or s i 0) (drop (suc i) s))
 
-first-length : (s : List ℕ) (i : ℕ) → i < length s
+first_length : (s : List ℕ) (i : ℕ) → i < length s
     → length (decimals (drop i s)) ≡ length (space ∷ decimal (get_or s i 0)) + length (decimals (drop (i + 1) s))
-first-length s i h = ap length (first s i h) ∙ length-append (space ∷ decimal (get_or s i 0)) (decimals (drop (i + 1) s))
+first_length s i h = ap length (first s i h) ∙ length-append (space ∷ decimal (get_or s i 0)) (decimals (drop (i + 1) s))
 
 -- nothing is left
 none : (s : List ℕ) (i : ℕ) → i ≡ length s → decimals (drop i s) ≡ []
@@ -27,7 +27,7 @@ none s i e = ap (λ (k : ℕ). decimals (drop k s)) e ∙ ap decimals (drop-leng
 pub put_next-to-requires : goal.put_next-to-requires
 put_next-to-requires c =
     let h : c.loop-i.i < length c.args.numbers.now = omega arith in
-    omega (arith, first-length c.args.numbers.now c.loop-i.i h, c.loop-i.invariant.1, c.loop-i.invariant.2, c.requires)
+    omega (arith, first_length c.args.numbers.now c.loop-i.i h, c.loop-i.invariant.1, c.loop-i.invariant.2, c.requires)
 
 pub loop-i-preserved : goal.loop-i-preserved
 loop-i-preserved c =
@@ -36,7 +36,7 @@ loop-i-preserved c =
     let b : List ℕ = space ∷ decimal (get_or s i 0) in
     let rest : List ℕ = decimals (drop (i + 1) s) in
     let h : i < length s = omega arith in
-    let n = first-length s i h in
+    let n = first_length s i h in
     let room : c.loop-i.to + length b + length rest ≤ length c.loop-i.buf = omega (arith, n, c.loop-i.invariant.1, c.loop-i.invariant.2, c.requires) in (
       omega arith,
       ap length c.put_next-to.ensures.1 ∙ length_placed c.loop-i.buf c.loop-i.to b ∙ c.loop-i.invariant.1,

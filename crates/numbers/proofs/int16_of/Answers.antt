@@ -6,7 +6,6 @@ use Rattle.numbers.proofs.SignedLaws.{UpperHalf, upper_half, signed_is}
 use Rattle.numbers.proofs.int16_of.Goals as goal
 use Rattle.numbers.proofs.int16_of.Goals.{Else-v-lt32768}
 
--- `numbers::int16_of` meets its contract: the laws of the two halves, at its width.
 up : (c : Else-v-lt32768) → UpperHalf w16 c.args.v
 up c = upper_half w16 c.args.v (omega arith) (omega arith)
 

@@ -4,7 +4,6 @@ use Rattle.numbers.proofs.SignedLaws.{Positive, positive, Negative, negative}
 use Rattle.numbers.proofs.int16_word.Goals as goal
 use Rattle.numbers.proofs.int16_word.Goals.{Else-z-ge0, Then-z-ge0}
 
--- `numbers::int16_word` meets its contract: the laws of the two signs, at its width.
 up : (c : Then-z-ge0) → Positive w16 c.args.z
 up c = positive w16 c.args.z c.ranges.z c.if-z-ge0.true
 

@@ -6,7 +6,6 @@ use Rattle.numbers.proofs.SignedLaws.{UpperHalf, upper_half, signed_is}
 use Rattle.numbers.proofs.int8_of.Goals as goal
 use Rattle.numbers.proofs.int8_of.Goals.{Else-b-lt128}
 
--- `numbers::int8_of` meets its contract: the laws of the two halves, at its width.
 up : (c : Else-b-lt128) → UpperHalf w8 c.args.b
 up c = upper_half w8 c.args.b (omega arith) (omega arith)
 

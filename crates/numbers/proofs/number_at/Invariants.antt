@@ -5,7 +5,6 @@ use lib.ListN.{take, drop}
 use Rattle.numbers.specs.Number.{number_of}
 use Rattle.numbers.proofs.number_at.Given as goal
 
--- `numbers::number_at` meets its contract. The loop's invariant: the bytes from `at + k` on are read, and no more than those.
 abbrev pub invariant-loop-k : goal.invariant-loop-k
 invariant-loop-k l = (l.k ≤ l.n) × (l.r ≡ number_of (take (l.n - l.k) (drop (l.at + l.k) l.s))) × (l.r < 256 ^ (l.n - l.k))
 

@@ -6,7 +6,6 @@ use lib.ListN.{length}
 use Rattle.octets.proofs.DeliveryLaws.{refuses, short, writes}
 use Rattle.octets.proofs.deliver.Goals as goal
 
--- `octets::deliver` meets its contract: each return is a case of the laws.
 pub returns-then-refusal-ne0 : goal.returns-then-refusal-ne0
 returns-then-refusal-ne0 c =
     let a = c.args in

@@ -16,8 +16,8 @@ use Rattle.questions.proofs.question.Goals.{Joined-h-ge-F, Start, then-h-ge-F+el
 
 -- each way to answer
 module _ (r : Reader) (n : ℕ) where
-  refused-1 : 1 < r.head.mode → Questions r n 1
-  refused-1 h =
+  refused_1 : 1 < r.head.mode → Questions r n 1
+  refused_1 h =
       record {
         one = λ z. refl;
         two = λ z f. absurd (let w : ⊥ = omega arith in w);
@@ -28,8 +28,8 @@ module _ (r : Reader) (n : ℕ) where
         room = λ e. absurd (let w : ⊥ = omega arith in w);
       }
 
-  refused-2 : r.head.mode ≤ 1 → (Valid r → ⊥) → Questions r n 2
-  refused-2 h f =
+  refused_2 : r.head.mode ≤ 1 → (Valid r → ⊥) → Questions r n 2
+  refused_2 h f =
       record {
         one = λ z. absurd (let w : ⊥ = omega arith in w);
         two = λ z g. refl;
@@ -40,8 +40,8 @@ module _ (r : Reader) (n : ℕ) where
         room = λ e. absurd (let w : ⊥ = omega arith in w);
       }
 
-  refused-3 : r.head.mode ≤ 1 → Valid r → 0 < n → limit ≤ r.head.fed → Questions r n 3
-  refused-3 h v o l =
+  refused_3 : r.head.mode ≤ 1 → Valid r → 0 < n → limit ≤ r.head.fed → Questions r n 3
+  refused_3 h v o l =
       record {
         one = λ z. absurd (let w : ⊥ = omega arith in w);
         two = λ z g. absurd (g v);
@@ -80,17 +80,17 @@ valid q =
 
 pub returns-then-not-plausible : goal.returns-then-not-plausible
 returns-then-not-plausible c =
-    refused-2 (of (goal.at.returns-then-not-plausible c).Start) _ (omega (arith, c.if-h-ge2.false))
+    refused_2 (of (goal.at.returns-then-not-plausible c).Start) _ (omega (arith, c.if-h-ge2.false))
     (λ v. decided_no c.plausible.result c.plausible.ensures (ap not c.if-not-plausible.true) (plausible_of (of (goal.at.returns-then-not-plausible c).Start) v.possible))
 
 pub returns-then-h-pending_of : goal.returns-then-h-pending_of
 returns-then-h-pending_of c =
-    refused-2 (of (goal.at.returns-then-h-pending_of c).Start) _ (omega (arith, c.if-h-ge2.false))
+    refused_2 (of (goal.at.returns-then-h-pending_of c).Start) _ (omega (arith, c.if-h-ge2.false))
     (λ v. c.if-h-pending_of.true (held_of (of (goal.at.returns-then-h-pending_of c).Start) v.possible c.if-h-ge-F.true v.whole ∙ sym c.pending_of.ensures))
 
 pub returns-then-n-gt0 : goal.returns-then-n-gt0
 returns-then-n-gt0 c =
-    refused-3 (of (goal.at.returns-then-n-gt0 c).Start) _ (omega (arith, c.if-h-ge2.false)) (valid (goal.at.returns-then-n-gt0 c).Joined-h-ge-F) (omega (arith, c.if-n-gt0.true)) (omega (arith, c.if-h-ge-LIMIT.true))
+    refused_3 (of (goal.at.returns-then-n-gt0 c).Start) _ (omega (arith, c.if-h-ge2.false)) (valid (goal.at.returns-then-n-gt0 c).Joined-h-ge-F) (omega (arith, c.if-n-gt0.true)) (omega (arith, c.if-h-ge-LIMIT.true))
 
 pub returns-else-n-gt0 : goal.returns-else-n-gt0
 returns-else-n-gt0 c =

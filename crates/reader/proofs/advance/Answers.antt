@@ -14,9 +14,9 @@ use Rattle.reader.proofs.Rows.{in_place, fits_back, seven}
 use Rattle.reader.proofs.advance.Goals as goal
 
 -- what pends in the places that ask for it
-pends-at : (m : Moving) (a : List ℕ) (p n : ℕ) → m.place ≡ p → Pends m a → pending (state_of (place_of p m.id (take m.len a) m.c1 m.c2)) ≡ n
+pends_at : (m : Moving) (a : List ℕ) (p n : ℕ) → m.place ≡ p → Pends m a → pending (state_of (place_of p m.id (take m.len a) m.c1 m.c2)) ≡ n
     → m.pending ≡ n
-pends-at m a p n e h q = h ∙ ap pending (in_place m a p e) ∙ q
+pends_at m a p n e h q = h ∙ ap pending (in_place m a p e) ∙ q
 
 two_at : (m : Moving) (a : List ℕ) (p n : ℕ) → m.place ≡ p → Pends m a
     → 2 ≤ pending (state_of (place_of p m.id (take m.len a) m.c1 m.c2)) → 2 ≤ m.pending
@@ -27,14 +27,14 @@ unfolding place_of
 in_w-requires c =
     let p = c.requires in
     let e = c.in-0.is in
-    record { at_lt_n = (p.at_lt_n.0, p.at_lt_n.1, e, pends-at c.args.m c.args.d.now 0 0 e p.at_lt_n.3 refl); fits = p.fits.0 }
+    record { at_lt_n = (p.at_lt_n.0, p.at_lt_n.1, e, pends_at c.args.m c.args.d.now 0 0 e p.at_lt_n.3 refl); fits = p.fits.0 }
 
 pub in_wd-requires : goal.in_wd-requires
 unfolding place_of
 in_wd-requires c =
     let p = c.requires in
     let e = c.in-1.is in
-    record { le_at = (omega arith, omega arith, e, pends-at c.args.m c.args.d.now 1 1 e p.at_lt_n.3 refl); fits = fits_back p.fits.0 }
+    record { le_at = (omega arith, omega arith, e, pends_at c.args.m c.args.d.now 1 1 e p.at_lt_n.3 refl); fits = fits_back p.fits.0 }
 
 pub in_e-requires : goal.in_e-requires
 unfolding place_of

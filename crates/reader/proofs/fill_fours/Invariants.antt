@@ -4,7 +4,6 @@ use lib.ListN.{length}
 use Rattle.reader.specs.Moving.{Copied}
 use Rattle.reader.proofs.fill_fours.Given as goal
 
--- `reader::fill_fours` meets its contract: four bytes a turn, none of them DLE.
 abbrev pub invariant-loop-to : goal.invariant-loop-to
 invariant-loop-to l = (l.at ≤ length l.s) × Copied l.initial.d l.d l.len l.s l.from l.at
 

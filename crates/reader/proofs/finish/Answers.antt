@@ -14,36 +14,36 @@ use Rattle.reader.proofs.Finishing.{finish_quiet, finish_refused, finish_reopene
 use Rattle.reader.proofs.finish.Goals as goal
 
 -- what the act leaves to do, at the case that the act is
-as-act : (h : Head) (t : Moved) (a : List ℕ) (l : Kept → Option (List ℕ)) {x : Act} {c : Closed} → t.act ≡ x
+as_act : (h : Head) (t : Moved) (a : List ℕ) (l : Kept → Option (List ℕ)) {x : Act} {c : Closed} → t.act ≡ x
     → Finishes l (turned h.mode (base_of h l) x t.now t.last a (h.fed + t.at)) a c
     → Finishes l (turned h.mode (base_of h l) t.act t.now t.last a (h.fed + t.at)) a c
-as-act h t a l {x} {c} q f =
+as_act h t a l {x} {c} q f =
     subst (λ (y : Act). Finishes l (turned h.mode (base_of h l) y t.now t.last a (h.fed + t.at)) a c) (sym q) f
 
 pub returns-in-Quiet : goal.returns-in-Quiet
 unfolding turned
 returns-in-Quiet c l =
     let x = c.args in
-    as-act x.h x.t x.d.now l c.in-Quiet.is
+    as_act x.h x.t x.d.now l c.in-Quiet.is
     (rw c.resume.ensures (finish_quiet x.h x.t.now x.t.at x.d.now l c.requires.place_bound.1 c.requires.place_bound.2))
 
 pub returns-in-Refused : goal.returns-in-Refused
 unfolding turned
 returns-in-Refused c l =
     let x = c.args in
-    as-act x.h x.t x.d.now l c.in-Refused.is
+    as_act x.h x.t x.d.now l c.in-Refused.is
     (rw c.dismiss.ensures (finish_refused x.h x.t.now x.t.at x.d.now l c.requires.place_bound.1 c.requires.place_bound.2 _))
 
 pub returns-in-Reopened : goal.returns-in-Reopened
 unfolding turned
 returns-in-Reopened c l =
     let x = c.args in
-    as-act x.h x.t x.d.now l c.in-Reopened.is
+    as_act x.h x.t x.d.now l c.in-Reopened.is
     (rw c.reopen.ensures (finish_reopened x.h x.t.now x.t.at x.d.now l c.requires.place_bound.1 c.requires.place_bound.2 _ x.t.last))
 
 pub returns-in-Ended : goal.returns-in-Ended
 unfolding turned
 returns-in-Ended c l =
     let x = c.args in
-    as-act x.h x.t x.d.now l c.in-Ended.is
+    as_act x.h x.t x.d.now l c.in-Ended.is
     (rw c.conclude.ensures (finish_ended x.h x.t.now x.t.at x.d.now l c.requires.place_bound.1 c.requires.place_bound.2 _ c.judge-v.ensures))

@@ -22,9 +22,9 @@ use Rattle.line.proofs.Reading.{is}
 use Rattle.reader.proofs.in_e.Goals as goal
 
 -- a byte that is no DLE, in E
-E-other : (m : Mode) (id : ℕ) (d : List ℕ) (c1 c2 b : ℕ) → (b ≡ 16 → ⊥)
+e_other : (m : Mode) (id : ℕ) (d : List ℕ) (c1 c2 b : ℕ) → (b ≡ 16 → ⊥)
     → next m (E id d c1 c2) b ≡ refuse 8 id (pending (E id d c1 c2) + 1)
-E-other m id d c1 c2 b n = by (class_of b) refl
+e_other m id d c1 c2 b n = by (class_of b) refl
   where
     by : (k : Class) → class_of b ≡ k → next m (E id d c1 c2) b ≡ refuse 8 id (pending (E id d c1 c2) + 1)
     by dle e = absurd (n (dle_is b e))
@@ -51,6 +51,6 @@ returns-else-b-eq-DLE c k a w h =
     subst (λ (t : Moved). Moves k x.m a a x.b x.at x.n t) (sym c.shut.ensures)
     (steps_refused k x.m a x.b x.at x.n p.le_at.0 p.fits 8
     (ap (λ s. next (mode_of k) s x.b) here
-    ∙ E-other (mode_of k) x.m.id (take x.m.len a) x.m.c1 x.m.c2 x.b c.if-b-eq-DLE.false
+    ∙ e_other (mode_of k) x.m.id (take x.m.len a) x.m.c1 x.m.c2 x.b c.if-b-eq-DLE.false
     ∙ ap (λ s. refuse 8 x.m.id (pending s + 1)) (sym here))
     (omega (arith, p.le_at.3)) h)

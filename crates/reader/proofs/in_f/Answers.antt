@@ -24,10 +24,10 @@ use Rattle.reader.proofs.in_f.Goals as goal
 use Rattle.reader.proofs.in_f.Goals.{After-fill-to}
 
 -- the place stays possible while data join
-F-sound : (k : ℕ) (m : Moving) (a : List ℕ) (w : Moving) (a' : List ℕ) → m.place ≡ 2 → w.place ≡ 2 → w.id ≡ m.id → w.len ≤ 1024 → Sound k m a
+f_sound : (k : ℕ) (m : Moving) (a : List ℕ) (w : Moving) (a' : List ℕ) → m.place ≡ 2 → w.place ≡ 2 → w.id ≡ m.id → w.len ≤ 1024 → Sound k m a
     → Sound k w a'
 unfolding place_of
-F-sound k m a w a' p q i l h =
+f_sound k m a w a' p q i l h =
     let u = subst IdOk (in_place m a 2 p) h.identifier in
     subst⁻¹ (PlaceOk (mode_of k)) (in_place w a' 2 q)
     (record { mode = tt; identifier = rw i u; size = omega (arith, length-take w.len a') })
@@ -63,7 +63,7 @@ module _ (j : After-fill-to) where
       pends_within 0 x.m before (array j) bytes x.at j.fill-to.result x.n p.at_lt_n.2 y.least y.most p.at_lt_n.1 y.none p.at_lt_n.4 y.same
 
   sound : (k : ℕ) → Sound k j.args.m before → Sound k (moved j) (array j)
-  sound k = F-sound k j.args.m before (moved j) (array j) j.requires.at_lt_n.2 j.requires.at_lt_n.2 refl j.fill-to.ensures.held
+  sound k = f_sound k j.args.m before (moved j) (array j) j.requires.at_lt_n.2 j.requires.at_lt_n.2 refl j.fill-to.ensures.held
 
   fits : Fits (moved j) j.fill-to.result j.args.n
   fits =

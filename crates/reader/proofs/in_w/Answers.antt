@@ -21,13 +21,13 @@ use Rattle.reader.proofs.Rows.{in_place, fits_back, steps_went}
 use Rattle.reader.proofs.in_w.Goals as goal
 
 -- in W nothing pends, and the place is possible
-W-pends : (m : Moving) (a : List ℕ) → m.place ≡ 0 → m.pending ≡ 0 → Pends m a
+w_pends : (m : Moving) (a : List ℕ) → m.place ≡ 0 → m.pending ≡ 0 → Pends m a
 unfolding place_of
-W-pends m a p h = h ∙ sym (ap pending (in_place m a 0 p))
+w_pends m a p h = h ∙ sym (ap pending (in_place m a 0 p))
 
-W-sound : (k : ℕ) (m : Moving) (a : List ℕ) → m.place ≡ 0 → Sound k m a
+w_sound : (k : ℕ) (m : Moving) (a : List ℕ) → m.place ≡ 0 → Sound k m a
 unfolding place_of
-W-sound k m a p = subst⁻¹ (PlaceOk (mode_of k)) (in_place m a 0 p) w_ok
+w_sound k m a p = subst⁻¹ (PlaceOk (mode_of k)) (in_place m a 0 p) w_ok
 
 pub returns-then-to-n : goal.returns-then-to-n
 unfolding place_of
@@ -39,12 +39,12 @@ returns-then-to-n c k a w =
     let m = outer x.m (r - x.at) in
     let f : Fits m r x.n = record { known = p.fits.known; short = p.fits.short; room = omega (arith, p.fits.room, s.least) } in
     then_goes (silent_wait k x.m a x.s.now x.at r x.n p.at_lt_n.2 p.at_lt_n.3 s.least s.most p.at_lt_n.1 s.none) s.least
-    (omega (arith, s.least)) (λ u. W-sound k m a p.at_lt_n.2)
+    (omega (arith, s.least)) (λ u. w_sound k m a p.at_lt_n.2)
     (subst (λ (t : Moved). Goes k m a a x.s.now r x.n t) (sym (c.go.ensures ∙ ap (λ (z : Moving). went z 1 (r + 1)) c.moving_of-w.ensures))
     (goes_of
     (steps_went k m a (get_or x.s.now r 0) (r + 1) x.n (omega arith) (fits_back f) x.m.c1 x.m.c2 1 WD
     (row_at (mode_of k) (get_or x.s.now r 0) (in_place m a 0 p.at_lt_n.2) (is_dle (get_or x.s.now r 0) (s.stop c.if-to-n.true)) refl)
-    refl (omega arith) (W-pends m a p.at_lt_n.2 p.at_lt_n.3))
+    refl (omega arith) (w_pends m a p.at_lt_n.2 p.at_lt_n.3))
     c.if-to-n.true p.at_lt_n.1 w))
 
 pub returns : goal.returns
@@ -57,4 +57,4 @@ returns c k a w =
     rw c.moving_of-w.ensures
     (then_stop (silent_wait k x.m a x.s.now x.at r x.n p.at_lt_n.2 p.at_lt_n.3 s.least s.most p.at_lt_n.1 s.none) (omega arith)
     s.most (omega (arith, s.least)) (record { known = p.fits.known; short = p.fits.short; room = omega (arith, p.fits.room, s.least) })
-    (W-pends m a p.at_lt_n.2 p.at_lt_n.3) (λ u. W-sound k m a p.at_lt_n.2) w)
+    (w_pends m a p.at_lt_n.2 p.at_lt_n.3) (λ u. w_sound k m a p.at_lt_n.2) w)

@@ -6,7 +6,6 @@ use Rattle.reader.specs.Moving.{Pends, Sound, Fits}
 use Rattle.reader.proofs.Feeding.{Left}
 use Rattle.reader.proofs.run.Given as goal
 
--- `reader::run` meets its contract: the invariant says what is left to do.
 abbrev pub invariant-loop-at : goal.invariant-loop-at
 invariant-loop-at l =
     (l.at ≤ l.n) × (length l.d ≡ 1024) × Pends l.m l.d × Fits l.m l.at l.n × Sound l.mode l.m l.d × (l.m.outside + l.m.pending ≡ l.initial.m.outside + l.initial.m.pending + l.at)

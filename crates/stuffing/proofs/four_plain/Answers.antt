@@ -9,7 +9,6 @@ use lib.ListN.{length, get_or}
 use Rattle.stuffing.specs.Stuffing.{other, four_plain}
 use Rattle.stuffing.proofs.four_plain.Goals as goal
 
--- `stuffing::four_plain` meets its contract.
 short : (s : List ℕ) (i : ℕ) → length s < i + 4 → false ≡ four_plain s i
 unfolding four_plain
 short s i l = rw (lt-leb (i + 4) (length s) l)

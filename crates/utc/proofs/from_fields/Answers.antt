@@ -12,13 +12,13 @@ use Rattle.utc.proofs.RefusalLaws.{passed, refused, given}
 use Rattle.utc.proofs.from_fields.Goals as goal
 use Rattle.utc.proofs.from_fields.Goals.{Start}
 
-leap-fits : (c : Start) → SFits w16 c.args.f.dt_ls
-leap-fits c = search rules
+leap_fits : (c : Start) → SFits w16 c.args.f.dt_ls
+leap_fits c = search rules
 
-leap-is : (c : Start) → to_z w32 (of_z w32 (to_z w16 (of_z w16 c.args.f.dt_ls))) ≡ c.args.f.dt_ls
-leap-is c =
+leap_is : (c : Start) → to_z w32 (of_z w32 (to_z w16 (of_z w16 c.args.f.dt_ls))) ≡ c.args.f.dt_ls
+leap_is c =
     let leap = c.args.f.dt_ls in
-    to_z-of_z w32 (to_z w16 (of_z w16 leap)) (widens (of_z w16 leap)) ∙ to_z-of_z w16 leap (leap-fits c)
+    to_z-of_z w32 (to_z w16 (of_z w16 leap)) (widens (of_z w16 leap)) ∙ to_z-of_z w16 leap (leap_fits c)
 
 pub returns-then-refused-ne0 : goal.returns-then-refused-ne0
 returns-then-refused-ne0 c =
@@ -45,5 +45,5 @@ unfolding seconds_of
 returns c =
     let a = c.args in
     let dt = to_z-of_z w32 c.elapsed_seconds-dt.result (sfits_of c.elapsed_seconds-dt.type_inv) ∙ c.elapsed_seconds-dt.ensures in
-    ap gives (c.evaluate.ensures ∙ (λ k. polynomial (of_bits binary64 a.f.a0) (of_bits binary64 a.f.a1) (dt k) (leap-is (goal.at.returns c).Start k)))
+    ap gives (c.evaluate.ensures ∙ (λ k. polynomial (of_bits binary64 a.f.a0) (of_bits binary64 a.f.a1) (dt k) (leap_is (goal.at.returns c).Start k)))
     ∙ given a.f a.second a.week (sym c.refusal-refused.ensures ∙ c.if-refused-ne0.false)

@@ -16,9 +16,9 @@ use Rattle.writer.proofs.put_data.Goals as goal
 first : (s : List ℕ) (i : ℕ) → i < length s → stuffed (drop i s) ≡ stuffed (get_or s i 0 ∷ []) ++ stuffed (drop (i + 1) s)
 first s i h = rw add-one (ap stuffed (drop-cons s i 0 h) ∙ stuffed_append (get_or s i 0 ∷ []) (drop (suc i) s))
 
-first-length : (s : List ℕ) (i : ℕ) → i < length s
+first_length : (s : List ℕ) (i : ℕ) → i < length s
     → length (stuffed (drop i s)) ≡ length (stuffed (get_or s i 0 ∷ [])) + length (stuffed (drop (i + 1) s))
-first-length s i h = ap length (first s i h) ∙ length-append (stuffed (get_or s i 0 ∷ [])) (stuffed (drop (i + 1) s))
+first_length s i h = ap length (first s i h) ∙ length-append (stuffed (get_or s i 0 ∷ [])) (stuffed (drop (i + 1) s))
 
 -- nothing is left
 none : (s : List ℕ) (i : ℕ) → i ≡ length s → stuffed (drop i s) ≡ []
@@ -27,7 +27,7 @@ none s i e = ap (λ (k : ℕ). stuffed (drop k s)) e ∙ ap stuffed (drop-length
 pub put_byte-to-requires : goal.put_byte-to-requires
 put_byte-to-requires c =
     let h : c.loop-i.i < length c.args.body.now = omega arith in
-    omega (arith, first-length c.args.body.now c.loop-i.i h, c.loop-i.invariant.1, c.loop-i.invariant.2, c.requires)
+    omega (arith, first_length c.args.body.now c.loop-i.i h, c.loop-i.invariant.1, c.loop-i.invariant.2, c.requires)
 
 pub loop-i-preserved : goal.loop-i-preserved
 loop-i-preserved c =
@@ -36,7 +36,7 @@ loop-i-preserved c =
     let b : List ℕ = stuffed (get_or s i 0 ∷ []) in
     let rest : List ℕ = stuffed (drop (i + 1) s) in
     let h : i < length s = omega arith in
-    let n = first-length s i h in
+    let n = first_length s i h in
     let room : c.loop-i.to + length b + length rest ≤ length c.loop-i.buf = omega (arith, n, c.loop-i.invariant.1, c.loop-i.invariant.2, c.requires) in (
       omega arith,
       ap length c.put_byte-to.ensures.1 ∙ length_placed c.loop-i.buf c.loop-i.to b ∙ c.loop-i.invariant.1,

@@ -15,24 +15,24 @@ use Rattle.record.specs.Posts.{blank_record}
 use Rattle.line.proofs.Mirror.{mirror}
 use Rattle.record.proofs.Reader.fresh.Goals as goal
 
-no-latest : (m : ℕ) (k : Kept) → none ≡ latest_of (blank_record m).latest k
-no-latest m k_43 = refl
-no-latest m k_46 = refl
-no-latest m k_4a = refl
-no-latest m k_4b = refl
-no-latest m k_eb = refl
+no_latest : (m : ℕ) (k : Kept) → none ≡ latest_of (blank_record m).latest k
+no_latest m k_43 = refl
+no_latest m k_46 = refl
+no_latest m k_4a = refl
+no_latest m k_4b = refl
+no_latest m k_eb = refl
 
 -- what a fresh reader is, is what a blank_record record shows
-fresh-blank : (m : ℕ) → m ≤ 1 → fresh m ≡ made (view (blank_record m))
+fresh_blank : (m : ℕ) → m ≤ 1 → fresh m ≡ made (view (blank_record m))
 unfolding place_of
-fresh-blank m g =
+fresh_blank m g =
     ap (λ t. cond t (made (mirror m [])) (refused 1)) (le-leb m 1 g)
-    ∙ (λ i. made (record { mode = m; place = place_of 0 0 [] 0 0; fed = 0; accepted = 0; refused = 0; outside = 0; pending = 0; latest = λ k. no-latest m k i }))
+    ∙ (λ i. made (record { mode = m; place = place_of 0 0 [] 0 0; fed = 0; accepted = 0; refused = 0; outside = 0; pending = 0; latest = λ k. no_latest m k i }))
 
 pub returns-then-mode-le1 : goal.returns-then-mode-le1
 returns-then-mode-le1 c =
     record {
-      good = λ g. (refl, fresh-blank c.args.mode g ∙ ap (λ r. made (view r)) (sym c.blank-reader.ensures));
+      good = λ g. (refl, fresh_blank c.args.mode g ∙ ap (λ r. made (view r)) (sym c.blank-reader.ensures));
       bad = λ b. absurd (let z : ⊥ = omega (arith, c.if-mode-le1.true) in z);
       whole = c.blank-reader.ensures;
     }

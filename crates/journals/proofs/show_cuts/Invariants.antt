@@ -1,9 +1,8 @@
--- `batches::show_cuts`: each turn goes on.
+-- `journals::show_cuts`: each turn goes on.
 use Prim.Native.Nat.{◌+◌, ◌-◌, ◌≤◌}
 use lib.ListN.{length}
-use Rattle.batches.proofs.show_cuts.Given as goal
+use Rattle.journals.proofs.show_cuts.Given as goal
 
--- `batches::show_cuts`: each turn goes on.
 abbrev pub invariant-loop-k : goal.invariant-loop-k
 invariant-loop-k l = l.k ≤ length l.s + 1
 

@@ -1,9 +1,8 @@
--- `batches::read_through`: each turn goes on.
+-- `journals::read_through`: each turn goes on.
 use Prim.Native.Nat.{◌-◌, ◌≤◌}
 use lib.ListN.{length}
-use Rattle.batches.proofs.read_through.Given as goal
+use Rattle.journals.proofs.read_through.Given as goal
 
--- `batches::read_through`: each turn goes on.
 abbrev pub invariant-loop-k : goal.invariant-loop-k
 invariant-loop-k l = (l.at ≤ length l.s) × (l.k ≤ 30000)
 

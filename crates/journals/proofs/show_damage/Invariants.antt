@@ -1,9 +1,8 @@
--- `batches::show_damage`: each turn goes on.
+-- `journals::show_damage`: each turn goes on.
 use Prim.Native.Nat.{◌-◌, ◌≤◌}
 use lib.ListN.{length}
-use Rattle.batches.proofs.show_damage.Given as goal
+use Rattle.journals.proofs.show_damage.Given as goal
 
--- `batches::show_damage`: each turn goes on.
 abbrev pub invariant-loop-k : goal.invariant-loop-k
 invariant-loop-k l = l.k ≤ length l.s
 
