@@ -57,7 +57,8 @@ pub fn u64_at(s: &[u8], at: usize) -> u64
 pub fn int8_of(b: u8) -> i8
     ensures { result ≡ int8 b }
 {
-    if b < 0x80 {
+    let low = b < 0x80;
+    if low {
         b as i8
     } else {
         -1 - ((0xFF - b) as i8)
@@ -68,7 +69,8 @@ pub fn int8_of(b: u8) -> i8
 pub fn int16_of(v: u16) -> i16
     ensures { result ≡ int16 v }
 {
-    if v < 0x8000 {
+    let low = v < 0x8000;
+    if low {
         v as i16
     } else {
         -1 - ((0xFFFF - v) as i16)

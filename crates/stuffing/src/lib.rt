@@ -14,7 +14,8 @@ pub fn count_dle(s: &[u8]) -> usize
     let mut n: usize = 0;
     let mut i: usize = 0;
     while i < s.len() {
-        if s[i] == DLE {
+        let is_dle = s[i] == DLE;
+        if is_dle {
             n += 1;
         }
         i += 1;

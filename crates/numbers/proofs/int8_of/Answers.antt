@@ -4,13 +4,13 @@ use native.Mathlib.Omega.{arith}
 use mir.Syntax.{w8}
 use Rattle.numbers.proofs.SignedLaws.{UpperHalf, upper_half, signed_is}
 use Rattle.numbers.proofs.int8_of.Goals as goal
-use Rattle.numbers.proofs.int8_of.Goals.{Else-b-lt128}
+use Rattle.numbers.proofs.int8_of.Goals.{Else-low}
 
-up : (c : Else-b-lt128) → UpperHalf w8 c.args.b
+up : (c : Else-low) → UpperHalf w8 c.args.b
 up c = upper_half w8 c.args.b (omega arith) (omega arith)
 
-pub returns-then-b-lt128 : goal.returns-then-b-lt128
-returns-then-b-lt128 c = sym (signed_is w8 c.args.b)
+pub returns-then-low : goal.returns-then-low
+returns-then-low c = sym (signed_is w8 c.args.b)
 
-pub returns-else-b-lt128 : goal.returns-else-b-lt128
-returns-else-b-lt128 c = (up c).is
+pub returns-else-low : goal.returns-else-low
+returns-else-low c = (up c).is

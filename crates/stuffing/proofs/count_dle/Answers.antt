@@ -9,7 +9,7 @@ use lib.Seq.{drop-cons, drop-length}
 use Rattle.stuffing.specs.Stuffing.{dles}
 use Rattle.stuffing.proofs.StuffingLaws.{dles_append, dles_dle, dles_other}
 use Rattle.stuffing.proofs.count_dle.Goals as goal
-use Rattle.stuffing.proofs.count_dle.Goals.{then-s-i-eq-DLE, else-s-i-eq-DLE}
+use Rattle.stuffing.proofs.count_dle.Goals.{then-is_dle, else-is_dle}
 
 pub loop-i-preserved : goal.loop-i-preserved
 loop-i-preserved c =
@@ -19,8 +19,8 @@ loop-i-preserved c =
     let h : i < length s = omega arith in
     let m : dles (drop i s) ≡ dles (b ∷ []) + dles (drop (i + 1) s) = rw (add-one, drop-cons s i 0 h) (dles_append (b ∷ []) (drop (suc i) s)) in (
       omega arith,
-      elim c.if-s-i-eq-DLE.branch [ then-s-i-eq-DLE w ↦ omega arith | else-s-i-eq-DLE w ↦ omega arith ],
-      elim c.if-s-i-eq-DLE.branch [ then-s-i-eq-DLE w ↦ omega (arith, dles_dle b w.if-s-i-eq-DLE.true) | else-s-i-eq-DLE w ↦ omega (arith, dles_other b w.if-s-i-eq-DLE.false) ],
+      elim c.if-is_dle.branch [ then-is_dle w ↦ omega arith | else-is_dle w ↦ omega arith ],
+      elim c.if-is_dle.branch [ then-is_dle w ↦ omega (arith, dles_dle b w.if-is_dle.true) | else-is_dle w ↦ omega (arith, dles_other b w.if-is_dle.false) ],
     )
 
 pub returns : goal.returns
