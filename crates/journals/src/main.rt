@@ -1,16 +1,17 @@
 // Lays out the lists and journals that it reads, a line each, and prints what writing and reading make of them. A line that starts with #
 // is printed as it is. Any other is hexadecimal text: a number, another, a count and a length in two bytes each, low byte first, then
 // bytes. So many of these are a part, which is laid down so many times; the rest follows it once. The first number says what they are:
-// - 03, a list. A line has refusal and length of writing its records, and the digest (from 0 on, with each byte, 31 times the digest and the byte, modulo 65,521) of them and the 8 bytes after, in a buffer of AAh. Of one
-//   that is not refused the next line has what reading to the end gives: the messages, the bytes taken, the last refusal, and the digest of
-//   identifiers, lengths and data as a list has them. The last line is the first again, of a buffer that ends the second number of bytes
-//   before the records do.
-// - 04, a journal. The line has refusal, identifier, length and taken of its first record, the digest of all 1,024 bytes, and what reading to
-//   the end gives.
-// - 05, a journal. A line for each of its bytes, changed by exclusive or with the second number: the place, and what reading to the end gives.
+// - 03, a list. A line has refusal and length of writing its records, and the digest (from 0 on, with each byte, 31 times the digest and
+//   the byte, modulo 65,521) of them and the 8 bytes after, in a buffer of AAh. Of one that is not refused the next line has what reading
+//   to the end gives: the messages, the bytes taken, the last refusal, and the digest of identifiers, lengths and data as a list has them.
+//   The last line is the first again, of a buffer that ends the second number of bytes before the records do.
+// - 04, a journal. The line has refusal, identifier, length and taken of its first record, the digest of all 1,024 bytes, and what reading
+//   to the end gives.
+// - 05, a journal. A line for each of its bytes, changed by exclusive or with the second number: the place, and what reading to the end
+//   gives.
 // - 06, a journal. A line for each length, from 0 on: the length, and what reading so much of it to the end gives.
-// - 07, a header, a width and a place in a byte each, then data. The line has whether its columns are within a buffer of 64 bytes of AAh from
-//   that place on (1, else 0) and the digest of the buffer, then the same of its rows.
+// - 07, a header, a width and a place in a byte each, then data. The line has whether its columns are within a buffer of 64 bytes of AAh
+//   from that place on (1, else 0) and the digest of the buffer, then the same of its rows.
 // All numbers are decimal.
 #![tactic(auto)]
 
