@@ -17,192 +17,112 @@
 //   how many bytes are offered
 // - 0B contains, insert, place: a is the set, b the place; system and number are the first two bytes
 // - 0C parse, line_end: of the bytes as text, with room b, and from place a on
-// - 0D number, of every refusal
+// - 0D number, of every refusal but those of a journal
 // - 0E int8_byte, int16_word, of numbers at the ends and around 0
 // - 0F is_leap, days_in, is_date: the bytes are day, month and year
 //
 // A call's line has its number and its answers, in this order; where it fills a buffer, that is last, up to four bytes past the room.
 #![tactic(auto)]
 
+ghost use Rattle.std.specs.Prelude.{◌≤◌, length};
+
+use answering::{print_answer, print_octets};
 use latest::Latest;
 use record::{Head, Reader};
+use refusals::Refusal;
+use std::io;
 
-fn number(n: u64) {
-    io::write_all(1, b" ");
-    io::print_decimal(1, n);
-}
-
-fn octet(n: u8) {
-    number(n as u64);
-}
-
-fn half(n: u16) {
-    number(n as u64);
-}
-
-fn word(n: u32) {
-    number(n as u64);
-}
-
-fn size(n: usize) {
-    number(n as u64);
-}
-
-fn flag(on: bool) {
-    number(on as u64);
-}
-
-fn int8(z: i8) {
-    let b = numbers::int8_byte(z);
-    if z < 0 {
-        io::write_all(1, b" -");
-        io::print_decimal(1, 256 - b as u64);
-        return;
-    }
-    octet(b);
-}
-
-fn int16(z: i16) {
-    let v = numbers::int16_word(z);
-    if z < 0 {
-        io::write_all(1, b" -");
-        io::print_decimal(1, 65536 - v as u64);
-        return;
-    }
-    half(v);
-}
-
-fn hex(b: u8) {
-    io::print_hex(1, b as u64, 2);
-}
-
-// The first n of these bytes.
-fn octets(s: &[u8], n: usize) {
-    let mut i: usize = 0;
-    while i < n {
-        hex(octets::byte_at(s, i));
-        i += 1;
-    }
-}
-
-// These bytes as numbers.
-fn decimals(s: &[u8]) {
-    let mut i: usize = 0;
-    while i < s.len() {
-        octet(s[i]);
-        i += 1;
-    }
+fn print_flag(rt: &impl Print, on: bool) -> io::Result<()> {
+    print!(rt; " {}", u8::from(on))
 }
 
 // A buffer up to four bytes past the room.
-fn buffer(buf: &[u8], room: usize) {
-    io::write_all(1, b" ");
-    if room < 4096 {
-        octets(buf, room + 4);
-    }
+fn print_buffer(rt: &impl Print, buf: &[u8], room: usize) -> io::Result<()>
+    requires { room ≤ length buf.now }
+{
+    print!(rt; " ")?;
+    print_octets(rt, "", buf, room + 4)
 }
 
-fn run_put(at: usize, room: usize, d: &[u8], buf: &mut [u8]) {
-    if buf.len() < room {
-        return;
-    }
-    flag(octets::put(d, &mut buf[0..room], at));
-    buffer(buf, room);
+fn run_put(rt: &impl Print, at: usize, room: usize, d: &[u8], buf: &mut [u8]) -> io::Result<()> {
+    let Some(lent) = buf.get_mut(..room) else {
+        return Ok(());
+    };
+    print_flag(rt, octets::put(d, lent, at))?;
+    print_buffer(rt, buf, room)
 }
 
-fn run_numbers(at: usize, d: &[u8]) {
-    half(numbers::u16_at(d, at));
-    word(numbers::u32_at(d, at));
-    number(numbers::u64_at(d, at));
-    octet(numbers::int8u_at(d, at));
-    int8(numbers::int8s_at(d, at));
+fn run_numbers(rt: &impl Print, at: usize, d: &[u8]) -> io::Result<()> {
+    print!(rt;
+        " {} {} {} {} {}",
+        numbers::u16_at(d, at),
+        numbers::u32_at(d, at),
+        numbers::u64_at(d, at),
+        numbers::int8u_at(d, at),
+        numbers::int8s_at(d, at)
+    )
 }
 
-fn run_signed(d: &[u8]) {
-    int8(numbers::int8_of(octets::byte_at(d, 0)));
-    int16(numbers::int16_of(numbers::u16_at(d, 0)));
+fn run_signed(rt: &impl Print, d: &[u8]) -> io::Result<()> {
+    let byte = numbers::int8_of(octets::byte_at(d, 0));
+    let word = numbers::int16_of(numbers::u16_at(d, 0));
+    print!(rt; " {byte} {word}")
 }
 
-fn run_stuffing(at: usize, d: &[u8]) {
-    size(stuffing::count_dle(d));
-    flag(stuffing::four_plain(d, at));
+fn run_stuffing(rt: &impl Print, at: usize, d: &[u8]) -> io::Result<()> {
+    print!(rt; " {}", stuffing::count_dle(d))?;
+    print_flag(rt, stuffing::four_plain(d, at))
 }
 
-fn run_sums(d: &[u8]) {
-    if d.len() < 2 {
-        return;
-    }
-    half(checksum::message(d[0], &d[2..]));
-    half(checksum::after_slice(numbers::u16_at(d, 0), &d[2..]));
+fn run_sums(rt: &impl Print, d: &[u8]) -> io::Result<()> {
+    let [low, high, body @ ..] = d else {
+        return Ok(());
+    };
+    let register = u16::from_le_bytes([*low, *high]);
+    print!(rt;
+        " {} {}",
+        checksum::message(*low, body),
+        checksum::after_slice(register, body)
+    )
 }
 
-// The first m widths and the first k words.
-fn encode_rows(id: u8, words: &[u64], k: usize, widths: &[usize], m: usize, buf: &mut [u8]) {
-    if words.len() < k {
-        return;
-    }
-    if widths.len() < m {
-        return;
-    }
-    let w = rows::encode(id, &words[0..k], &widths[0..m], buf);
-    octet(w.refusal);
-    size(w.length);
-}
-
-fn run_rows(x: u64, room: usize, d: &[u8], buf: &mut [u8]) {
-    if buf.len() < room {
-        return;
-    }
-    let widths = [octets::byte_at(d, 1) as usize; 17];
+fn run_rows(rt: &impl Print, x: u64, room: usize, d: &[u8], buf: &mut [u8]) -> io::Result<()> {
+    let Some(lent) = buf.get_mut(..room) else {
+        return Ok(());
+    };
     let words = [x; 17];
-    let m = octets::byte_at(d, 2) as usize;
-    let k = octets::byte_at(d, 3) as usize;
-    encode_rows(
-        octets::byte_at(d, 0),
-        &words,
-        k,
-        &widths,
-        m,
-        &mut buf[0..room],
-    );
-    buffer(buf, room);
-}
-
-// A latest message, if there is one.
-fn held(has: bool, id: u8, d: &[u8]) {
-    if has {
-        io::write_all(1, b" ");
-        hex(id);
-        octets(d, d.len());
+    let widths = [usize::from(octets::byte_at(d, 1)); 17];
+    let how_many_widths = usize::from(octets::byte_at(d, 2));
+    let how_many_words = usize::from(octets::byte_at(d, 3));
+    if let (Some(words), Some(widths)) = (
+        words.get(..how_many_words),
+        widths.get(..how_many_widths),
+    ) {
+        let written = rows::encode(octets::byte_at(d, 0), words, widths, lent);
+        print_answer(rt, &written)?;
     }
+    print_buffer(rt, buf, room)
 }
 
-fn held_short(l: Latest) {
-    let d43 = l.d43;
-    let d46 = l.d46;
-    let deb = l.deb;
-    held(l.has43, 0x43, &d43);
-    held(l.has46, 0x46, &d46);
-    held(l.haseb, 0xEB, &deb);
-}
-
-fn held_long(l: Latest) {
-    let d4a = l.d4a;
-    let d4b = l.d4b;
-    held(l.has4a, 0x4A, &d4a);
-    held(l.has4b, 0x4B, &d4b);
-}
-
-fn run_store(d: &[u8]) {
-    if d.len() < 2 {
-        return;
+// The latest messages that there are.
+fn print_latest(rt: &impl Print, l: &Latest) -> io::Result<()> {
+    for id in [0x43, 0x46, 0xEB, 0x4A, 0x4B] {
+        if let Some(d) = l.data(id) {
+            print!(rt; " {id:02x}")?;
+            print_octets(rt, "", d, d.len())?;
+        }
     }
-    let f = Reader::fresh(0);
-    let n = octets::byte_at(d, 1) as usize;
-    let l = latest::store(f.reader.latest, d[0], &d[2..], n);
-    flag(latest::acceptable(l));
-    held_short(l);
-    held_long(l);
+    Ok(())
+}
+
+fn run_store(rt: &impl Print, d: &[u8]) -> io::Result<()> {
+    let [id, length, body @ ..] = d else {
+        return Ok(());
+    };
+    let fresh = Reader::fresh(0);
+    let l = latest::store(fresh.reader.latest, *id, body, usize::from(*length));
+    print_flag(rt, latest::acceptable(l))?;
+    print_latest(rt, &l)
 }
 
 // A record outside a frame: its mode, fed and outside.
@@ -222,157 +142,156 @@ fn head_of(d: &[u8]) -> Head {
     }
 }
 
-fn run_question(len: usize, offered: usize, d: &[u8], array: &[u8]) {
-    if array.len() < len {
-        return;
-    }
-    let f = Reader::fresh(0);
-    let h = head_of(d);
-    octet(questions::question(h, f.reader.latest, &array[0..len], offered));
+fn run_question(
+    rt: &impl Print,
+    len: usize,
+    offered: usize,
+    d: &[u8],
+    array: &[u8],
+) -> io::Result<()> {
+    let Some(lent) = array.get(..len) else {
+        return Ok(());
+    };
+    let fresh = Reader::fresh(0);
+    let asked = questions::question(head_of(d), fresh.reader.latest, lent, offered);
+    print!(rt; " {}", refusals::code(&asked))
 }
 
-fn run_text(from: usize, room: usize, d: &[u8], buf: &mut [u8]) {
-    if buf.len() < room {
-        return;
-    }
-    size(hexlines::line_end(d, from));
-    size(hexlines::parse(d, &mut buf[0..room]));
-    buffer(buf, room);
+fn run_text(rt: &impl Print, from: usize, room: usize, d: &[u8], buf: &mut [u8]) -> io::Result<()> {
+    let Some(lent) = buf.get_mut(..room) else {
+        return Ok(());
+    };
+    print!(rt;
+        " {} {}",
+        hexlines::line_end(d, from),
+        hexlines::parse(d, lent)
+    )?;
+    print_buffer(rt, buf, room)
 }
 
-fn run_refusals() {
+fn run_refusals(rt: &impl Print) -> io::Result<()> {
     let all = [
-        refusals::MODE,
-        refusals::RECORD,
-        refusals::FULL,
-        refusals::TOO_LONG,
-        refusals::CUT,
-        refusals::SUM_MISSING,
-        refusals::SUM_UNEXPECTED,
-        refusals::END_MISSING,
-        refusals::SUM_WRONG,
-        refusals::UNLISTED,
-        refusals::LENGTH,
-        refusals::RANGE,
-        refusals::BUFFER,
-        refusals::UNRELIABLE,
-        refusals::TIME,
-        refusals::NOT_FINITE,
-        refusals::NO_SATELLITE,
-        refusals::DATE,
-        refusals::LIST,
+        Refusal::Mode,
+        Refusal::Record,
+        Refusal::Full,
+        Refusal::TooLong,
+        Refusal::Cut,
+        Refusal::SumMissing,
+        Refusal::SumUnexpected,
+        Refusal::EndMissing,
+        Refusal::SumWrong,
+        Refusal::Unlisted,
+        Refusal::Length,
+        Refusal::Range,
+        Refusal::Buffer,
+        Refusal::Unreliable,
+        Refusal::Time,
+        Refusal::NotFinite,
+        Refusal::NoSatellite,
+        Refusal::Date,
+        Refusal::List,
     ];
-    decimals(&all);
+    for refusal in all {
+        print!(rt; " {}", refusal.number())?;
+    }
+    Ok(())
 }
 
-fn run_bits() {
-    let bytes = [
-        numbers::int8_byte(-128),
-        numbers::int8_byte(-1),
-        numbers::int8_byte(0),
-        numbers::int8_byte(127),
-    ];
-    decimals(&bytes);
-    half(numbers::int16_word(-32768));
-    half(numbers::int16_word(-1));
-    half(numbers::int16_word(0));
-    half(numbers::int16_word(32767));
+fn run_bits(rt: &impl Print) -> io::Result<()> {
+    for n in [-128, -1, 0, 127] {
+        print!(rt; " {}", numbers::int8_byte(n))?;
+    }
+    for n in [-32768, -1, 0, 32767] {
+        print!(rt; " {}", numbers::int16_word(n))?;
+    }
+    Ok(())
 }
 
-fn run_set(set: u64, place: u64, d: &[u8]) {
-    flag(satellites::contains(set, place));
-    number(satellites::insert(set, place));
-    number(satellites::place(octets::byte_at(d, 0), octets::byte_at(d, 1)));
+fn run_set(rt: &impl Print, set: u64, place: u64, d: &[u8]) -> io::Result<()> {
+    print_flag(rt, satellites::contains(set, place))?;
+    print!(rt;
+        " {} {}",
+        satellites::insert(set, place),
+        satellites::place(octets::byte_at(d, 0), octets::byte_at(d, 1))
+    )
 }
 
-fn run_date(d: &[u8]) {
+fn run_date(rt: &impl Print, d: &[u8]) -> io::Result<()> {
     let month = octets::byte_at(d, 1);
     let year = numbers::u16_at(d, 2);
-    flag(calendar::is_leap(year));
-    octet(calendar::days_in(month, year));
-    flag(calendar::is_date(octets::byte_at(d, 0), month, year));
+    print_flag(rt, calendar::is_leap(year))?;
+    print!(rt; " {}", calendar::days_in(month, year))?;
+    print_flag(rt, calendar::is_date(octets::byte_at(d, 0), month, year))
 }
 
-fn run_filling(call: u8, a: u64, b: u64, d: &[u8], buf: &mut [u8]) {
+fn run_filling(
+    rt: &impl Print,
+    call: u8,
+    a: u64,
+    b: u64,
+    d: &[u8],
+    buf: &mut [u8],
+) -> io::Result<()> {
     match call {
-        3 => run_put(a as usize, b as usize, d, buf),
-        8 => run_rows(a, b as usize, d, buf),
-        10 => run_question(a as usize, b as usize, d, buf),
-        _ => run_text(a as usize, b as usize, d, buf),
+        3 => run_put(rt, a as usize, b as usize, d, buf),
+        8 => run_rows(rt, a, b as usize, d, buf),
+        10 => run_question(rt, a as usize, b as usize, d, buf),
+        _ => run_text(rt, a as usize, b as usize, d, buf),
     }
 }
 
-fn run(call: u8, a: u64, b: u64, d: &[u8]) {
+fn run(rt: &impl Print, call: u8, a: u64, b: u64, d: &[u8]) -> io::Result<()> {
     let mut buf = [0x5Au8; 1100];
     match call {
-        1 => flag(octets::within(a as usize, b as usize, numbers::u64_at(d, 0) as usize)),
-        2 => octet(octets::byte_at(d, a as usize)),
-        4 => run_numbers(a as usize, d),
-        5 => run_signed(d),
-        6 => run_stuffing(a as usize, d),
-        7 => run_sums(d),
-        9 => run_store(d),
-        11 => run_set(a, b, d),
-        13 => run_refusals(),
-        14 => run_bits(),
-        15 => run_date(d),
-        _ => run_filling(call, a, b, d, &mut buf),
+        1 => print_flag(
+            rt,
+            octets::within(a as usize, b as usize, numbers::u64_at(d, 0) as usize),
+        ),
+        2 => print!(rt; " {}", octets::byte_at(d, a as usize)),
+        4 => run_numbers(rt, a as usize, d),
+        5 => run_signed(rt, d),
+        6 => run_stuffing(rt, a as usize, d),
+        7 => run_sums(rt, d),
+        9 => run_store(rt, d),
+        11 => run_set(rt, a, b, d),
+        13 => run_refusals(rt),
+        14 => run_bits(rt),
+        15 => run_date(rt, d),
+        _ => run_filling(rt, call, a, b, d, &mut buf),
     }
 }
 
-fn call(s: &[u8]) {
-    if s.len() < 17 {
-        return;
-    }
-    hex(s[0]);
-    run(s[0], numbers::u64_at(s, 1), numbers::u64_at(s, 9), &s[17..]);
-    io::write_all(1, b"\n");
+fn call(rt: &impl Print, s: &[u8]) -> io::Result<()> {
+    let Some((head, d)) = s.split_at_checked(17) else {
+        return Ok(());
+    };
+    let code = octets::byte_at(head, 0);
+    print!(rt; "{code:02x}")?;
+    run(
+        rt,
+        code,
+        numbers::u64_at(head, 1),
+        numbers::u64_at(head, 9),
+        d,
+    )?;
+    println!(rt)
 }
 
-fn line(s: &[u8]) {
-    if octets::byte_at(s, 0) == b'#' {
-        io::write_all(1, s);
-        io::write_all(1, b"\n");
-        return;
+fn show_published(rt: &impl Print) -> io::Result<()> {
+    println!(rt; "{:04x}", checksum::after_slice(0, b"123456789"))?;
+    for b in 0..=u8::MAX {
+        println!(rt;
+            "{:04x} {:04x}",
+            checksum::after_slice(0, &[b]),
+            checksum::entry(b)
+        )?;
     }
+    Ok(())
+}
+
+fn main(rt: HostRuntime) -> io::Result<()> {
+    show_published(&rt)?;
+    let mut input = [0u8; 65536];
     let mut bytes = [0u8; 256];
-    let n = hexlines::parse(s, &mut bytes);
-    call(&bytes[0..n]);
-}
-
-fn show_register(register: u16) {
-    io::print_hex(1, register as u64, 4);
-    io::write_all(1, b"\n");
-}
-
-fn show_entry(b: u8) {
-    let one = [b];
-    io::print_hex(1, checksum::after_slice(0, &one) as u64, 4);
-    io::write_all(1, b" ");
-    show_register(checksum::entry(b));
-}
-
-fn show_published() {
-    show_register(checksum::after_slice(0, b"123456789"));
-    let mut i: usize = 0;
-    while i < 256 {
-        show_entry(i as u8);
-        i += 1;
-    }
-}
-
-fn main() {
-    show_published();
-    let mut buf = io::large_buffer();
-    let n = io::read_full(0, &mut buf);
-    let s = &buf[..n];
-    let mut at: usize = 0;
-    while at < s.len() {
-        let end = hexlines::line_end(s, at);
-        line(&s[at..end]);
-        if s.len() <= end {
-            return;
-        }
-        at = end + 1;
-    }
+    answering::each_call(&rt, &mut input, &mut bytes, |s| call(&rt, s))
 }

@@ -12,8 +12,7 @@ use Rattle.numbers.specs.Number.{number_of, bytes_of}
 use Rattle.numbers.proofs.NumberLaws.{length_bytes, number_bytes, number_in}
 use Rattle.kinds.specs.Kinds.{content}
 use Rattle.kinds.proofs.ContentLaws.{content_length}
-use Rattle.batch.specs.declared.Header.{Header}
-use Rattle.batch.specs.Entries.{Entry, entry_bytes, list_bytes, length_in, body_in, judged, header_of, first_of, rest_of, Contents, ahead, contents_up_to, contents_of, limit, list_of, Each, AcceptableEntry}
+use Rattle.batch.specs.Entries.{Header, Entry, entry_bytes, list_bytes, length_in, body_in, judged, header_of, first_of, rest_of, Contents, ahead, contents_up_to, contents_of, limit, list_of, Each, AcceptableEntry}
 use Rattle.batch.specs.Entries.Contents.{entries, refused}
 use Rattle.batch.specs.Entries.Each.{none, also}
 use Rattle.batch.proofs.EntryLaws.{header_whole, judged_yes, rest_less}

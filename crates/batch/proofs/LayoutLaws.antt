@@ -79,6 +79,10 @@ holds (suc k) s h = by (eqb (length s) 0) (eqb (header_of s).refusal 0) refl ref
         let e = eqb-false (header_of s).refusal 0 q in
         subst (Holds s) (sym (at_refusal s (omega (arith, eqb-false (length s) 0 p)) e)) e
 
+-- of all the bytes
+pub contents_holds : (s : List ℕ) → Holds s (contents_of s)
+contents_holds s = holds (length s) s (omega arith)
+
 -- of the whole list
 pub list_holds : (s : List ℕ) → Holds s (list_of s)
 list_holds s = by (ltb limit (length s)) refl

@@ -4,3 +4,4 @@ pub mod LayoutLaws
 pub mod TimeLaws
 pub mod Theorems
 pub mod Vectors
+pub mod WalkLaws

@@ -7,7 +7,7 @@ use native.Mathlib.Omega.{arith}
 use borrow.Author.Tests.{ltb-true, ltb-false}
 use lib.Dec.{ltb}
 use lib.ListN.{length, take, length-append}
-use Rattle.octets.specs.declared.Written.{Written}
+use Rattle.octets.specs.Delivery.{Written}
 use Rattle.stuffing.specs.Stuffing.{dles}
 use Rattle.stuffing.proofs.StuffingLaws.{dles_le, dles_none, dles_all}
 use Rattle.numbers.proofs.NumberLaws.{length_bytes}
@@ -17,11 +17,10 @@ use Rattle.line.specs.Frame.Mode.{plain, summed}
 use Rattle.line.specs.Calls.{frames}
 use Rattle.writer.proofs.FrameLength.{frame_plain, frame_summed}
 use Rattle.writer.proofs.WritingLaws.{all_written, written_back}
-use Rattle.batch.specs.declared.LineTime.{LineTime}
 use Rattle.batch.specs.Entries.{Entry, list_bytes, Contents, limit, list_of, Each, AcceptableEntry}
 use Rattle.batch.specs.Entries.Contents.{entries, refused}
 use Rattle.batch.specs.Entries.Each.{none, also}
-use Rattle.batch.specs.Times.{frames_of, time_of, contents_time, time_for}
+use Rattle.batch.specs.Times.{LineTime, frames_of, time_of, contents_time, time_for}
 use Rattle.batch.specs.Writes.{Write, Granted, lengths, joined, as_messages, Timed, more, bytes_of_one, One}
 use Rattle.batch.proofs.ContentsLaws.{list_back}
 use Rattle.batch.proofs.LayoutLaws.{Holds, list_holds, list_acceptable}

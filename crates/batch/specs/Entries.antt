@@ -1,10 +1,12 @@
 -- Document 02, Point 10: a list of messages in a buffer, or the refusal that it meets first.
-use Rattle.std.specs.Prelude.{cond, List, [], ◌∷◌, ◌++◌, ℕ, zero, suc, ◌+◌, eqb, ltb, length, take, drop}
+use Rattle.std.specs.Prelude.{cond, List, [], ◌∷◌, ◌++◌, ℕ, zero, suc, ◌+◌, eqb, ltb, length, take, drop, Result, Ok, Err}
+use Rattle.refusals.specs.declared.Refusal.{Refusal}
+use Rattle.refusals.specs.Numbers.{number}
 use Rattle.octets.specs.Bytes.{byte}
 use Rattle.numbers.specs.Number.{bytes_of, number_at}
 use Rattle.kinds.specs.Kinds.{content}
 use Rattle.line.specs.Frame.{Acceptable}
-use Rattle.batch.specs.declared.Header.{Header}
+use Rattle.batch.specs.declared.Header.{Header as Given}
 
 -- an entry: identifier, 16-bit length of the data low byte first, data
 pub record Entry : Type 0 where
@@ -26,11 +28,22 @@ length_in s = number_at s 1 2
 abbrev pub body_in : ℕ → List ℕ → List ℕ
 body_in n s = take n (drop 3 s)
 
+-- an entry by the papers' numbers: a refusal's, or 0 with the identifier and the length of the data
+pub record Header : Type 0 where
+  pub refusal : ℕ
+  pub id : ℕ
+  pub length : ℕ
+
 abbrev pub wrong : ℕ → Header
 wrong v = record { refusal = v; id = 0; length = 0 }
 
 abbrev pub judged : ℕ → ℕ → ℕ → Header
 judged v id n = cond (eqb v 0) (record { refusal = 0; id = id; length = n }) (wrong v)
+
+-- the entry that a call returned
+abbrev pub header : Result Given Refusal → Header
+header (Ok h) = record { refusal = 0; id = h.id; length = h.length }
+header (Err r) = wrong (number r)
 
 -- 19 where fewer than 3 bytes are left, or fewer than 3 and the length; then 10 to 12
 unfoldable pub header_of : List ℕ → Header

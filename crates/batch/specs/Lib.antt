@@ -1,3 +1,4 @@
 pub mod Entries
 pub mod Times
+pub mod Walks
 pub mod Writes

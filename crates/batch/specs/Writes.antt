@@ -1,7 +1,7 @@
 -- Document 02, Point 10: the line time of a list is what the writer then produces for it; and the bytes of one message.
 use Rattle.std.specs.Prelude.{List, [], ◌∷◌, ◌++◌, ◌↔◌, ◌≡◌, ℕ, ◌+◌, ◌*◌, ◌≤◌, ◌<◌, length, take}
 use Rattle.octets.specs.Bytes.{byte}
-use Rattle.octets.specs.declared.Written.{Written}
+use Rattle.octets.specs.Delivery.{Written}
 use Rattle.line.specs.Frame.{Mode, mode_of, frame}
 use Rattle.line.specs.Frame.Mode.{plain, summed}
 use Rattle.line.specs.Calls.{Message, frames}

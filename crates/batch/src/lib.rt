@@ -1,119 +1,127 @@
 // A list of messages in a buffer, and the time that it takes on the line.
 #![tactic(auto)]
 
-ghost use Rattle.std.specs.Prelude.{◌≡◌, ◌∷◌, [], ℕ, ◌+◌, ◌*◌, ◌≤◌, ◌<◌, length, drop};
-ghost use Rattle.numbers.specs.Number.{number_of};
-ghost use Rattle.writer.specs.Writing.{length_on_line};
-ghost use Rattle.batch.specs.Entries.{limit, body_in, wrong, judged, header_of};
-ghost use Rattle.batch.specs.Times.{time_of, time_for};
+ghost use Rattle.std.specs.Prelude.{◌≡◌, ◌≤◌, drop, length, IfOk};
+ghost use Rattle.std.specs.Iterator.{at_most};
+ghost use Rattle.batch.specs.Entries.{header, header_of, limit, list_of};
+ghost use Rattle.batch.specs.Times.{time, time_for};
+ghost use Rattle.batch.specs.Walks.{GivesFirst};
+
+use refusals::Refusal;
 
 // The longest list.
 pub const LIMIT: usize = 65536;
 
-// An entry of a list: a refusal, or 0 with the identifier and the length of the data.
-#[derive(Clone, Copy)]
+// An entry of a list: the identifier, and the length of the data.
+#[derive(Clone, Copy, Debug, PartialEq, Eq)]
 pub struct Header {
-    pub refusal: u8,
     pub id: u8,
     pub length: usize,
 }
 
-// What a list takes on the line: a refusal, or 0 with the bytes and the bits.
-#[derive(Clone, Copy)]
+// A message of a list, whose data stand there.
+#[derive(Clone, Copy, Debug)]
+pub struct Message<'a> {
+    pub id: u8,
+    pub data: &'a [u8],
+}
+
+// What a list takes on the line: the bytes and the bits.
+#[derive(Clone, Copy, Debug, PartialEq, Eq)]
 pub struct LineTime {
-    pub refusal: u8,
     pub bytes: usize,
     pub bits: usize,
 }
 
-fn wrong(refusal: u8) -> Header
-    ensures { result ≡ wrong refusal }
+// The first message of these bytes, and the bytes after it.
+fn split_first(list: &[u8]) -> Result<(Message<'_>, &[u8]), Refusal>
+    ensures { GivesFirst list.now result }
 {
-    Header {
-        refusal: refusal,
-        id: 0,
-        length: 0,
-    }
-}
-
-fn judged(refusal: u8, id: u8, n: usize) -> Header
-    ensures { result ≡ judged refusal id n }
-{
-    if refusal != 0 {
-        return wrong(refusal);
-    }
-    Header {
-        refusal: 0,
-        id: id,
-        length: n,
-    }
-}
-
-// The number in two bytes.
-fn number_in(low: u8, high: u8) -> usize
-    ensures { (result ≡ number_of (low ∷ high ∷ [])) × (result < 65536) }
-{
-    low as usize + 256 * (high as usize)
+    let [id, low, high, after @ ..] = list else {
+        return Err(Refusal::List);
+    };
+    let n = usize::from(u16::from_le_bytes([*low, *high]));
+    let Some((data, rest)) = after.split_at_checked(n) else {
+        return Err(Refusal::List);
+    };
+    kinds::content(*id, data)?;
+    Ok((Message { id: *id, data }, rest))
 }
 
 // The entry at a place of a list; past the end there is none.
-pub fn entry_at(list: &[u8], at: usize) -> Header
-    ensures { result ≡ header_of (drop at list.now) }
+pub fn entry_at(list: &[u8], at: usize) -> Result<Header, Refusal>
+    ensures { header result ≡ header_of (drop at list.now) }
 {
-    if !octets::within(list.len(), at, 3) {
-        return wrong(refusals::LIST);
-    }
-    let id = list[at];
-    let n = number_in(list[at + 1], list[at + 2]);
-    let from = at + 3;
-    if !octets::within(list.len(), from, n) {
-        return wrong(refusals::LIST);
-    }
-    let to = from + n;
-    judged(kinds::content(id, &list[from..to]), id, n)
+    let Some(left) = list.get(at..) else {
+        return Err(Refusal::List);
+    };
+    let (message, _) = split_first(left)?;
+    Ok(Header {
+        id: message.id,
+        length: message.data.len(),
+    })
 }
 
-fn timed(refusal: u8, bytes: usize) -> LineTime
-    requires { bytes ≤ 3 * limit }
-    ensures { result ≡ time_of refusal bytes }
-{
-    LineTime {
-        refusal: refusal,
-        bytes: bytes,
-        bits: 11 * bytes,
+// The messages that a list has left, one after the other. A refusal ends them.
+#[derive(Clone, Copy, Debug)]
+pub struct Messages<'a> {
+    rest: &'a [u8],
+}
+
+impl<'a> Messages<'a> {
+    ghost use Rattle.batch.specs.Walks.{opened, bytes_left};
+
+    // Those of a list, unless it is too long.
+    pub fn new(list: &'a [u8]) -> Result<Messages<'a>, Refusal>
+        ensures { (opened result ≡ list_of list.now)
+            × IfOk result (λ m. bytes_left m ≤ limit) }
+    {
+        if LIMIT < list.len() {
+            return Err(Refusal::List);
+        }
+        Ok(Messages { rest: list })
     }
 }
 
-// What the entry at a place takes, by its length.
-fn bytes_at(mode: u8, list: &[u8], at: usize, n: usize) -> usize
-    requires { (at + (3 + n) ≤ length list.now) × (length list.now ≤ limit) }
-    ensures { (id : ℕ) → result ≡ length_on_line mode id (body_in n (drop at list.now)) }
-{
-    let start = at + 3;
-    let end = start + n;
-    writer::frame_length(mode, &list[start..end])
+impl<'a> Iterator for Messages<'a> {
+    ghost use Rattle.batch.specs.Walks.{Gives, bytes_left};
+
+    type Item = Result<Message<'a>, Refusal>;
+
+    ghost next_gives = { Gives };
+
+    ghost remaining = { λ m. at_most (bytes_left m) };
+
+    fn next(&mut self) -> Option<Result<Message<'a>, Refusal>> {
+        if self.rest.is_empty() {
+            return None;
+        }
+        match split_first(self.rest) {
+            Ok((message, rest)) => {
+                self.rest = rest;
+                Some(Ok(message))
+            }
+            Err(refusal) => {
+                self.rest = &[];
+                Some(Err(refusal))
+            }
+        }
+    }
 }
 
 // The bytes that a list takes on the line in a mode, and the bits, 11 for each byte. Nothing is written.
-pub fn line_time(mode: u8, list: &[u8]) -> LineTime
-    ensures { result ≡ time_for mode list.now }
+pub fn line_time(mode: u8, list: &[u8]) -> Result<LineTime, Refusal>
+    ensures { time result ≡ time_for mode list.now }
 {
     if 1 < mode {
-        return timed(refusals::MODE, 0);
+        return Err(Refusal::Mode);
     }
-    if LIMIT < list.len() {
-        return timed(refusals::LIST, 0);
-    }
-    let mut at: usize = 0;
     let mut bytes: usize = 0;
-    while at < list.len() {
-        let e = entry_at(list, at);
-        let n = e.length;
-        if e.refusal != 0 {
-            return timed(e.refusal, 0);
-        }
-        bytes += bytes_at(mode, list, at, n);
-        at += 3 + n;
+    for message in Messages::new(list)? {
+        bytes += writer::frame_length(mode, message?.data);
     }
-    timed(0, bytes)
+    Ok(LineTime {
+        bytes,
+        bits: 11 * bytes,
+    })
 }

@@ -4,34 +4,31 @@
 ghost use Rattle.std.specs.Prelude.{◌≡◌};
 ghost use Rattle.calendar.specs.Calendar.{leap, days_in, date_exists};
 
+#[tactic(auto, unfolding(crate::specs::Calendar::leap))]
 pub fn is_leap(year: u16) -> bool
     ensures { result ≡ leap year }
 {
-    (year % 4 == 0) & ((year % 100 != 0) | (year % 400 == 0))
+    year.is_multiple_of(4) && (!year.is_multiple_of(100) || year.is_multiple_of(400))
 }
 
 // The days of a month in a year. 0 where there is no such month.
+#[tactic(auto, unfolding(crate::specs::Calendar::days_in))]
 pub fn days_in(month: u8, year: u16) -> u8
     ensures { result ≡ days_in month year }
 {
-    if month == 2 {
-        if is_leap(year) {
-            return 29;
-        }
-        return 28;
+    match month {
+        2 if is_leap(year) => 29,
+        2 => 28,
+        4 | 6 | 9 | 11 => 30,
+        1..=12 => 31,
+        _ => 0,
     }
-    if (month == 4) | (month == 6) | (month == 9) | (month == 11) {
-        return 30;
-    }
-    if (1 <= month) & (month <= 12) {
-        return 31;
-    }
-    0
 }
 
 // Whether there is such a day in that month and year.
+#[tactic(auto, unfolding(crate::specs::Calendar::date_exists))]
 pub fn is_date(day: u8, month: u8, year: u16) -> bool
     ensures { result ≡ date_exists day month year }
 {
-    (1 <= day) & (day <= days_in(month, year))
+    (1..=days_in(month, year)).contains(&day)
 }

@@ -6,6 +6,7 @@ use Prim.Native.Nat.{ℕ}
 use native.Mathlib.Omega.{arith}
 use borrow.Author.Tests.{leb-true, leb-false}
 use lib.Dec.{leb}
+use Rattle.refusals.specs.Numbers.{why}
 use Rattle.line.specs.Record.{fresh}
 use Rattle.line.specs.Record.Fresh.{made}
 use Rattle.line.specs.Record.{StepPost as StepSeen, FeedPost as FeedSeen}
@@ -44,7 +45,7 @@ feed_seen r bs x p =
       rest = λ z y o. let w = p.asked.rest z y o in (w.0, is_said _ _ w.1, w.2);
     }
 
-fresh_seen : (m : ℕ) (x : Made) → FreshPost m x → x.refusal ≡ 0 → fresh m ≡ made (view x.reader)
+fresh_seen : (m : ℕ) (x : Made) → FreshPost m x → why x.refusal ≡ 0 → fresh m ≡ made (view x.reader)
 fresh_seen m x p e = by (leb m 1) refl
   where
     by : (t : Bool) → leb m 1 ≡ t → fresh m ≡ made (view x.reader)

@@ -1,5 +1,6 @@
 -- Document 01, "Demand 3, over a list of calls": the list, on the record in memory.
 use Rattle.std.specs.Prelude.{List, [], ◌∷◌, ◌≡◌, ℕ}
+use Rattle.refusals.specs.Numbers.{why}
 use Rattle.line.specs.Table.{Event as Said}
 use Rattle.line.specs.Calls.{History, step_took}
 use Rattle.line.specs.Calls.Call.{step, feed}
@@ -18,7 +19,7 @@ answered a = said (parts_of a)
 
 -- a list of calls on one reader: what the contracts of the code say, and nothing else
 pub data Trace (m : ℕ) : History → Reader → Type 0 where
-  begun : (x : Fresh) → FreshPost m x → x.refusal ≡ 0 → Trace m start x.reader
+  begun : (x : Fresh) → FreshPost m x → why x.refusal ≡ 0 → Trace m start x.reader
   stepped : {h : History} {r : Reader} {b : ℕ} (x : Stepped) → Trace m h r → StepPost r b x
       → Trace m (call h (step b) (step_took (answered x.answer)) (answered x.answer)) x.reader
   fed : {h : History} {r : Reader} {bs : List ℕ} (x : Fed) → Trace m h r → FeedPost r bs x

@@ -9,26 +9,21 @@ use record::{Answer, Fed, Reader, Stepped};
 pub fn feed(old: Reader, s: &[u8]) -> Fed
     ensures { FeedPost old s.now result }
 {
-    let h = old.head;
-    let l = old.latest;
-    let mut r = old;
-    let x = reader::feed_in_place(h, l, &mut r.bytes, s);
-    let head = x.head;
-    let latest = x.latest;
-    r.head = head;
-    r.latest = latest;
-    let event = x.event;
-    let bytes = r.bytes;
-    let answer = Answer {
-        event: event,
-        id: x.id,
-        len: x.len,
-        bytes: bytes,
-        closed: x.closed,
-    };
+    let mut bytes = old.bytes;
+    let x = reader::feed_in_place(old.head, old.latest, &mut bytes, s);
     Fed {
-        reader: r,
-        answer: answer,
+        reader: Reader {
+            head: x.head,
+            latest: x.latest,
+            bytes,
+        },
+        answer: Answer {
+            event: x.event,
+            id: x.id,
+            len: x.len,
+            bytes,
+            closed: x.closed,
+        },
         taken: x.taken,
     }
 }
@@ -37,12 +32,9 @@ pub fn feed(old: Reader, s: &[u8]) -> Fed
 pub fn step(r: Reader, b: u8) -> Stepped
     ensures { StepPost r b result }
 {
-    let one = [b];
-    let f = feed(r, &one);
-    let reader = f.reader;
-    let answer = f.answer;
+    let f = feed(r, &[b]);
     Stepped {
-        reader: reader,
-        answer: answer,
+        reader: f.reader,
+        answer: f.answer,
     }
 }

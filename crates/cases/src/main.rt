@@ -18,159 +18,100 @@
 // buffer up to four bytes past the room. Identifiers, c1, c2 and data are in hexadecimal.
 #![tactic(auto)]
 
+use answering::{print_answer, print_octets};
 use latest::Latest;
 use record::{Answer, Event, Head, Reader};
+use std::io;
 use takeover::{Head32, Reader32};
 
-fn end() {
-    io::write_all(1, b"\n");
-}
-
-fn number(n: u64) {
-    io::write_all(1, b" ");
-    io::print_decimal(1, n);
-}
-
-fn octet(n: u8) {
-    number(n as u64);
-}
-
-fn count(n: record::Count) {
-    number(n as u64);
-}
-
-fn size(n: usize) {
-    number(n as u64);
-}
-
-fn hex(b: u8) {
-    io::write_all(1, b" ");
-    io::print_hex(1, b as u64, 2);
-}
-
-// The first n of these bytes.
-fn octets(s: &[u8], n: usize) {
-    let mut i: usize = 0;
-    while i < n {
-        hex(octets::byte_at(s, i));
-        i += 1;
+fn number(e: Event) -> u8 {
+    if e == Event::Message {
+        return 255;
     }
-}
-
-fn event(e: Event) -> u8 {
-    match e {
-        Event::Nothing => 0,
-        Event::Message => 255,
-        Event::Refusal(n) => n,
-    }
-}
-
-fn held(has: bool, d: &[u8]) {
-    if has {
-        octets(d, d.len());
-    }
+    refusals::why(e.refusal())
 }
 
 // The data of each standing reading.
-fn standing(l: Latest) {
-    let d43 = l.d43;
-    let d46 = l.d46;
-    let d4a = l.d4a;
-    let d4b = l.d4b;
-    let deb = l.deb;
-    held(l.has43, &d43);
-    held(l.has46, &d46);
-    held(l.has4a, &d4a);
-    held(l.has4b, &d4b);
-    held(l.haseb, &deb);
+fn print_latest(rt: &impl Print, l: &Latest) -> io::Result<()> {
+    for id in [0x43, 0x46, 0x4A, 0x4B, 0xEB] {
+        let d = l.data(id).unwrap_or(&[]);
+        print_octets(rt, " ", d, d.len())?;
+    }
+    Ok(())
 }
 
 // The parts of a record that no other line has.
-fn parts(h: Head, l: Latest) {
-    octet(h.mode);
-    hex(h.id);
-    hex(h.c1);
-    hex(h.c2);
-    size(h.len);
-    standing(l);
-    end();
-}
-
-// What a refusal leaves, if it is by a number up to this one.
-fn left(e: u8, most: u8, h: Head, l: Latest) {
-    if e == 0 {
-        return;
-    }
-    if most < e {
-        return;
-    }
-    parts(h, l);
+fn print_parts(rt: &impl Print, r: &Reader) -> io::Result<()> {
+    let h = r.head;
+    print!(rt;
+        " {} {:02x} {:02x} {:02x} {}",
+        h.mode, h.id, h.c1, h.c2, h.len
+    )?;
+    print_latest(rt, &r.latest)?;
+    println!(rt)
 }
 
 // The place and the counts.
-fn counts(h: Head) {
-    octet(h.place);
-    count(h.fed);
-    count(h.accepted);
-    count(h.refused);
-    count(h.outside);
-    count(h.pending);
+fn print_counts(rt: &impl Print, h: Head) -> io::Result<()> {
+    print!(rt; " {} {} {}", h.place, h.fed, h.accepted)?;
+    print!(rt; " {} {} {}", h.refused, h.outside, h.pending)
 }
 
 // The answer of a call, and the record's numbers after it.
-fn show(a: Answer, h: Head, l: Latest, taken: usize, most: u8) {
-    let d = a.bytes;
-    let e = a.event;
-    let n = event(e);
-    octet(n);
-    hex(a.id);
-    count(a.closed);
-    size(a.len);
-    size(taken);
-    counts(h);
-    octets(&d, a.len);
-    end();
-    left(n, most, h, l);
+fn show(rt: &impl Print, a: &Answer, taken: usize, r: &Reader) -> io::Result<()> {
+    let n = number(a.event);
+    print!(rt; " {n} {:02x} {} {} {taken}", a.id, a.closed, a.len)?;
+    print_counts(rt, r.head)?;
+    print_octets(rt, " ", &a.bytes, a.len)?;
+    println!(rt)
 }
 
-// Feeds a slice from where each call stopped until a call takes nothing; only once where what is left is shown.
-fn run(r0: Reader, s: &[u8], most: u8) {
-    let mut r = r0;
-    let mut done: usize = 0;
-    while done <= s.len() {
-        let f = calls::feed(r, &s[done..]);
-        let n = f.taken;
-        show(f.answer, f.reader.head, f.reader.latest, n, most);
-        if n == 0 {
-            return;
-        }
-        if 0 < most {
-            return;
+// The same, and then what a refusal by 1, 2 or 3 leaves.
+fn show_left(rt: &impl Print, a: &Answer, taken: usize, r: &Reader) -> io::Result<()> {
+    show(rt, a, taken, r)?;
+    match number(a.event) {
+        1..=3 => print_parts(rt, r),
+        _ => Ok(()),
+    }
+}
+
+// Feeds a slice from where each call stopped until a call takes nothing.
+fn feed(rt: &impl Print, first: Reader, s: &[u8]) -> io::Result<()> {
+    let mut r = first;
+    let mut rest = s;
+    loop {
+        let fed = calls::feed(r, rest);
+        show(rt, &fed.answer, fed.taken, &fed.reader)?;
+        if fed.taken == 0 {
+            return Ok(());
         }
         // A call that claims more than it was given is not believed.
-        if s.len() - done < n {
-            return;
-        }
-        r = f.reader;
-        done += n;
+        let Some(more) = rest.get(fed.taken..) else {
+            return Ok(());
+        };
+        r = fed.reader;
+        rest = more;
     }
+}
+
+// Feeds a slice by one call.
+fn feed_once(rt: &impl Print, r: Reader, s: &[u8]) -> io::Result<()> {
+    let fed = calls::feed(r, s);
+    show_left(rt, &fed.answer, fed.taken, &fed.reader)
 }
 
 // Single steps up to the first event, or through the slice.
-fn steps(r0: Reader, s: &[u8]) {
-    let mut r = r0;
-    let mut i: usize = 0;
-    while i < s.len() {
-        let t = calls::step(r, s[i]);
-        let a = t.answer;
-        let e = a.event;
-        i += 1;
-        if (event(e) != 0) | (s.len() <= i) {
-            show(a, t.reader.head, t.reader.latest, i, 3);
-            return;
+fn steps(rt: &impl Print, first: Reader, s: &[u8]) -> io::Result<()> {
+    let mut r = first;
+    for (i, b) in s.iter().enumerate() {
+        let stepped = calls::step(r, *b);
+        let taken = i + 1;
+        if stepped.answer.event != Event::Nothing || taken == s.len() {
+            return show_left(rt, &stepped.answer, taken, &stepped.reader);
         }
-        r = t.reader;
+        r = stepped.reader;
     }
+    Ok(())
 }
 
 fn head_of(s: &[u8]) -> Head {
@@ -180,7 +121,7 @@ fn head_of(s: &[u8]) -> Head {
         id: octets::byte_at(s, 3),
         c1: octets::byte_at(s, 4),
         c2: octets::byte_at(s, 5),
-        len: numbers::u16_at(s, 6) as usize,
+        len: usize::from(numbers::u16_at(s, 6)),
         accepted: numbers::u64_at(s, 8),
         refused: numbers::u64_at(s, 16),
         outside: numbers::u64_at(s, 24),
@@ -196,7 +137,7 @@ fn head32_of(s: &[u8]) -> Head32 {
         id: octets::byte_at(s, 3),
         c1: octets::byte_at(s, 4),
         c2: octets::byte_at(s, 5),
-        len: numbers::u16_at(s, 6) as usize,
+        len: usize::from(numbers::u16_at(s, 6)),
         accepted: numbers::u32_at(s, 8),
         refused: numbers::u32_at(s, 12),
         outside: numbers::u32_at(s, 16),
@@ -205,152 +146,121 @@ fn head32_of(s: &[u8]) -> Head32 {
     }
 }
 
-// The standing reading of a record: the first n bytes of the rest.
-fn latest_of(mode: u8, id: u8, rest: &[u8], n: usize) -> Latest {
-    let f = Reader::fresh(mode);
-    octet(f.refusal);
-    latest::store(f.reader.latest, id, rest, n)
-}
-
-// The data of a record: two bytes.
-fn data_of(s: &[u8], at: usize) -> [u8; Reader::CAPACITY] {
-    let mut bytes = [0u8; Reader::CAPACITY];
-    bytes[0] = octets::byte_at(s, at);
-    if at < s.len() {
-        bytes[1] = octets::byte_at(s, at + 1);
-    }
-    bytes
-}
-
 // One call in place.
-fn in_place(r: Reader, s: &[u8]) {
-    let mut d = r.bytes;
-    let x = reader::feed_in_place(r.head, r.latest, &mut d, s);
-    let e = x.event;
-    let a = Answer {
-        event: e,
+fn feed_in_place(rt: &impl Print, r: Reader, s: &[u8]) -> io::Result<()> {
+    let mut bytes = r.bytes;
+    let x = reader::feed_in_place(r.head, r.latest, &mut bytes, s);
+    let answer = Answer {
+        event: x.event,
         id: x.id,
         len: x.len,
-        bytes: d,
+        bytes,
         closed: x.closed,
     };
-    show(a, x.head, x.latest, x.taken, 3);
-}
-
-fn run_record(kind: u8, r: Reader, s: &[u8]) {
-    if kind == 5 {
-        in_place(r, s);
-        return;
-    }
-    if kind == 2 {
-        run(r, s, 0);
-        return;
-    }
-    steps(r, s);
-    run(r, s, 3);
-    run(r, &s[0..0], 3);
-}
-
-fn record(s: &[u8]) {
-    if s.len() < 52 {
-        return;
-    }
-    let n = octets::byte_at(s, 51) as usize;
-    let rest = &s[52..];
-    if rest.len() < n {
-        return;
-    }
-    let l = latest_of(s[1], s[50], rest, n);
-    let h = head_of(s);
-    let d = data_of(s, 48);
-    let r = Reader {
-        head: h,
-        latest: l,
-        bytes: d,
+    let left = Reader {
+        head: x.head,
+        latest: x.latest,
+        bytes,
     };
-    run_record(s[0], r, &rest[n..]);
+    show_left(rt, &answer, x.taken, &left)
 }
 
-fn record32(s: &[u8]) {
-    if s.len() < 32 {
-        return;
-    }
-    let n = octets::byte_at(s, 31) as usize;
-    let rest = &s[32..];
-    if rest.len() < n {
-        return;
-    }
-    let l = latest_of(s[1], s[30], rest, n);
-    let h = head32_of(s);
-    let d = data_of(s, 28);
-    let old = Reader32 {
-        head: h,
-        latest: l,
-        bytes: d,
-    };
-    let x = takeover::take_over(old);
-    octet(x.refusal);
-    counts(x.reader.head);
-    end();
-    parts(x.reader.head, x.reader.latest);
-    run(x.reader, &rest[n..], 0);
-}
-
-fn write_in(mode: u8, id: u8, room: usize, body: &[u8], buf: &mut [u8]) {
-    if buf.len() < room {
-        return;
-    }
-    let w = writer::write(mode, id, body, &mut buf[0..room]);
-    octet(w.refusal);
-    size(w.length);
-    octets(buf, room + 4);
-    end();
-}
-
-fn write(s: &[u8]) {
-    if s.len() < 5 {
-        return;
-    }
-    let mut buf = [0x5Au8; 2048];
-    write_in(
-        s[1],
-        s[2],
-        numbers::u16_at(s, 3) as usize,
-        &s[5..],
-        &mut buf,
-    );
-}
-
-fn case(s: &[u8]) {
-    match octets::byte_at(s, 0) {
-        4 => write(s),
-        6 => record32(s),
-        _ => record(s),
-    }
-}
-
-fn line(s: &[u8]) {
-    if octets::byte_at(s, 0) == b'#' {
-        io::write_all(1, s);
-        end();
-        return;
-    }
-    let mut bytes = [0u8; 4096];
-    let n = hexlines::parse(s, &mut bytes);
-    case(&bytes[0..n]);
-}
-
-fn main() {
-    let mut buf = [0u8; 262144];
-    let n = io::read_full(0, &mut buf);
-    let s = &buf[..n];
-    let mut at: usize = 0;
-    while at < s.len() {
-        let end = hexlines::line_end(s, at);
-        line(&s[at..end]);
-        if s.len() <= end {
-            return;
+fn run_record(rt: &impl Print, kind: u8, r: Reader, s: &[u8]) -> io::Result<()> {
+    match kind {
+        5 => feed_in_place(rt, r, s),
+        2 => feed(rt, r, s),
+        _ => {
+            steps(rt, r, s)?;
+            feed_once(rt, r, s)?;
+            feed_once(rt, r, &[])
         }
-        at = end + 1;
     }
+}
+
+// A line with a record: its head, as bytes, what is behind it, and the slice.
+#[derive(Drop)]
+struct Parts<'a> {
+    head: &'a [u8],
+    bytes: [u8; Reader::CAPACITY],
+    latest: Latest,
+    slice: &'a [u8],
+}
+
+// Reads it, after a head of so many bytes, and prints the refusal of a fresh reader of its mode.
+fn read_parts<'a>(rt: &impl Print, s: &'a [u8], size: usize) -> io::Result<Option<Parts<'a>>> {
+    let Some((head, [first, second, id, length, rest @ ..])) = s.split_at_checked(size) else {
+        return Ok(None);
+    };
+    let Some((data, slice)) = rest.split_at_checked(usize::from(*length)) else {
+        return Ok(None);
+    };
+    let fresh = Reader::fresh(octets::byte_at(head, 1));
+    print!(rt; " {}", refusals::why(fresh.refusal))?;
+    let mut bytes = [0u8; Reader::CAPACITY];
+    bytes[0] = *first;
+    bytes[1] = *second;
+    Ok(Some(Parts {
+        head,
+        bytes,
+        latest: latest::store(fresh.reader.latest, *id, data, data.len()),
+        slice,
+    }))
+}
+
+fn record(rt: &impl Print, kind: u8, s: &[u8]) -> io::Result<()> {
+    let Some(parts) = read_parts(rt, s, 48)? else {
+        return Ok(());
+    };
+    let r = Reader {
+        head: head_of(parts.head),
+        latest: parts.latest,
+        bytes: parts.bytes,
+    };
+    run_record(rt, kind, r, parts.slice)
+}
+
+fn record32(rt: &impl Print, s: &[u8]) -> io::Result<()> {
+    let Some(parts) = read_parts(rt, s, 28)? else {
+        return Ok(());
+    };
+    let old = Reader32 {
+        head: head32_of(parts.head),
+        latest: parts.latest,
+        bytes: parts.bytes,
+    };
+    let taken = takeover::take_over(old);
+    print!(rt; " {}", refusals::why(taken.refusal))?;
+    print_counts(rt, taken.reader.head)?;
+    println!(rt)?;
+    print_parts(rt, &taken.reader)?;
+    feed(rt, taken.reader, parts.slice)
+}
+
+fn write(rt: &impl Print, s: &[u8]) -> io::Result<()> {
+    let [_, mode, id, low, high, body @ ..] = s else {
+        return Ok(());
+    };
+    let room = usize::from(u16::from_le_bytes([*low, *high]));
+    let mut buf = [0x5Au8; 2048];
+    let Some(lent) = buf.get_mut(..room) else {
+        return Ok(());
+    };
+    let written = writer::write(*mode, *id, body, lent);
+    print_answer(rt, &written)?;
+    print_octets(rt, " ", &buf, room + 4)?;
+    println!(rt)
+}
+
+fn case(rt: &impl Print, s: &[u8]) -> io::Result<()> {
+    match octets::byte_at(s, 0) {
+        4 => write(rt, s),
+        6 => record32(rt, s),
+        kind => record(rt, kind, s),
+    }
+}
+
+fn main(rt: HostRuntime) -> io::Result<()> {
+    let mut input = [0u8; 262144];
+    let mut bytes = [0u8; 4096];
+    answering::each_call(&rt, &mut input, &mut bytes, |s| case(&rt, s))
 }

@@ -21,8 +21,7 @@ fn all_entries() -> [u16; 256]
 pub fn entry(v: u8) -> u16
     ensures { result ≡ after_byte 0 v }
 {
-    let t = all_entries();
-    t[v as usize]
+    all_entries()[usize::from(v)]
 }
 
 // The byte at the register's top leaves it by eight shifts, which are its entry and the rest moved up; then byte b comes in at the top.
@@ -31,7 +30,7 @@ fn shift_in(t: &[u16; 256], reg: u16, b: u8) -> u16
     requires { Entries t.now }
     ensures { result ≡ bit_xor (shifted_by 8 reg) (b * 256) }
 {
-    ((reg ^ (b as u16)) << 8) ^ t[(reg >> 8) as usize]
+    ((reg ^ u16::from(b)) << 8) ^ t[usize::from(reg >> 8)]
 }
 
 // The same with a byte of data as the line has it: a 10h comes in twice.
@@ -51,7 +50,7 @@ fn after_byte(t: &[u16; 256], reg: u16, b: u8) -> u16
     requires { Entries t.now }
     ensures { result ≡ after_byte reg b }
 {
-    shift_in(t, reg ^ ((b as u16) << 8), 0)
+    shift_in(t, reg ^ (u16::from(b) << 8), 0)
 }
 
 // The register after these bytes.
@@ -60,10 +59,8 @@ pub fn after_slice(reg: u16, s: &[u8]) -> u16
 {
     let t = all_entries();
     let mut r = reg;
-    let mut i: usize = 0;
-    while i < s.len() {
-        r = after_byte(&t, r, s[i]);
-        i += 1;
+    for b in s {
+        r = after_byte(&t, r, *b);
     }
     r
 }
@@ -75,16 +72,14 @@ pub fn message(id: u8, body: &[u8]) -> u16
 {
     let t = all_entries();
     let mut r = shift_in(&t, 0, id);
-    let mut i: usize = 0;
-    while i < body.len() {
-        r = shift_in_stuffed(&t, r, body[i]);
-        i += 1;
+    for b in body {
+        r = shift_in_stuffed(&t, r, *b);
     }
     shift_in(&t, r, 0)
 }
 
 // The two bytes of a checksum, as they stand on the line: c1 is the low one.
-#[derive(Clone, Copy)]
+#[derive(Clone, Copy, Debug, PartialEq, Eq)]
 pub struct SumBytes {
     pub c1: u8,
     pub c2: u8,
@@ -94,9 +89,6 @@ pub struct SumBytes {
 pub fn sum_bytes(id: u8, body: &[u8]) -> SumBytes
     ensures { (result.c1 ≡ c1_of id body.now) × (result.c2 ≡ c2_of id body.now) }
 {
-    let sum = message(id, body);
-    SumBytes {
-        c1: (sum & 0xFF) as u8,
-        c2: (sum >> 8) as u8,
-    }
+    let [c1, c2] = message(id, body).to_le_bytes();
+    SumBytes { c1, c2 }
 }

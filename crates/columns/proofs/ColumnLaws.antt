@@ -6,16 +6,18 @@ use Prim.Native.Nat.{ℕ, ◌+◌, ◌*◌, ◌-◌, ◌/◌, ◌%◌, ◌≤◌
 use native.Mathlib.Nat.{zero-add, zero-mul, mul_comm, mul-suc, mul-le-mul_left, div-add-mod}
 use native.Mathlib.Numerals.{add-one}
 use native.Mathlib.Omega.{arith}
-use borrow.Author.Tests.{leb-true, le-leb, eqb-true, eq-eqb}
+use borrow.Rule.Slice.PartMut.{put_mid}
+use borrow.Author.Tests.{leb-true, le-leb, lt-leb, eqb-true, eq-eqb, ne_eqb}
 use lib.Dec.{eqb, leb}
 use lib.ListN.{length, take, drop, set, length-append, length-drop}
 use lib.Seq.{take_all, get_or-take, get_or-drop, length-take-le}
+use Rattle.std.proofs.lemmas.List.{drop_all}
 use Rattle.octets.specs.Bytes.{byte}
 use Rattle.octets.specs.Placing.{placed}
-use Rattle.octets.proofs.PlacingLaws.{placed_nil, placed_more, placed_snoc}
+use Rattle.octets.proofs.PlacingLaws.{placed_nil, placed_part, placed_start, placed_more, placed_snoc}
 use Rattle.encoding.specs.Entries.{firsts, laid_out}
 use Rattle.encoding.proofs.EntryLaws.{length_firsts, firsts_same, firsts_take, get_d_firsts, length_laid, laid_at, laid_next, laid_same, all_pieces}
-use Rattle.columns.specs.Columns.{column, crossed, whole, count_of, by_columns, by_rows, rearranged}
+use Rattle.columns.specs.Columns.{column, crossed, whole, count_of, by_columns, by_rows}
 
 pub length_column : (n w : ℕ) (s : List ℕ) (j : ℕ) → length (column n w s j) ≡ n
 length_column n w s j = length_firsts (λ i. byte s (w * i + j)) n
@@ -72,6 +74,15 @@ whole_parts h w n e =
 pub whole_of : (h w n : ℕ) → h ≤ n → 1 ≤ w → (n - h) % w ≡ 0 → whole h w n ≡ true
 unfolding whole
 whole_of h w n l p z = λ k. le-leb h n l k && le-leb 1 w p k && eq-eqb ((n - h) % w) 0 z k
+
+-- a header cut short, and a byte too many
+pub whole_short : (h w n : ℕ) → n < h → whole h w n ≡ false
+unfolding whole
+whole_short h w n l = λ k. lt-leb h n l k && leb 1 w && eqb ((n - h) % w) 0
+
+pub whole_more : (h w n : ℕ) → h ≤ n → 1 ≤ w → ((n - h) % w ≡ 0 → ⊥) → whole h w n ≡ false
+unfolding whole
+whole_more h w n l p z = λ k. le-leb h n l k && le-leb 1 w p k && ne_eqb ((n - h) % w) 0 z k
 
 -- entries of no width
 pub whole_none : (h n : ℕ) → whole h 0 n ≡ false
@@ -132,13 +143,12 @@ module _ (h w : ℕ) (d : List ℕ) where
           let x = crossed w (count_of h w d) (drop h d) in
           ap length (rows_whole e) ∙ same_length x e (length_crossed w (count_of h w d) (drop h d) ∙ sym (behind e))
 
-pub length_rearranged : (back : Bool) (h w : ℕ) (d : List ℕ) → length (rearranged back h w d) ≡ length d
-length_rearranged true h w d = length_rows h w d
-length_rearranged false h w d = length_columns h w d
+-- whole entries are as long as the columns, and as the rows
+pub long_columns : (h w : ℕ) (s : List ℕ) → whole h w (length s) ≡ true → length s ≡ h + w * count_of h w s
+long_columns h w s e = (whole_parts h w (length s) e).2
 
-pub rearranged_not : (back : Bool) (h w : ℕ) (d : List ℕ) → whole h w (length d) ≡ false → rearranged back h w d ≡ d
-rearranged_not true h w d e = rows_not h w d e
-rearranged_not false h w d e = columns_not h w d e
+pub long_rows : (h w : ℕ) (s : List ℕ) → whole h w (length s) ≡ true → length s ≡ h + count_of h w s * w
+long_rows h w s e = (whole_parts h w (length s) e).2 ∙ ap (λ (k : ℕ). h + k) (mul_comm w (count_of h w s))
 
 -- without entries there is no column
 pub crossed_none : (w : ℕ) (s : List ℕ) → crossed 0 w s ≡ []
@@ -158,6 +168,23 @@ gather_next f b at i to e h all q =
     ap (λ (l : List ℕ). set l to (f i)) q
     ∙ placed_snoc b at (firsts f i) (f i) to (e ∙ ap (λ k. at + k) (sym (length_firsts f i))) h
     ∙ rw add-one
+
+-- and all of them
+pub gather_done : (f : ℕ → ℕ) (b : List ℕ) (i : ℕ) → i ≡ length b → placed b 0 (firsts f i) ≡ firsts f (length b)
+gather_done f b i e =
+    ap (λ k. placed b 0 (firsts f k)) e
+    ∙ placed_start b (firsts f (length b)) (omega (arith, length_firsts f (length b)))
+    ∙ ap (λ l. firsts f (length b) ++ l) (drop_all (length (firsts f (length b))) b (omega (arith, length_firsts f (length b))))
+    ∙ append-nil (firsts f (length b))
+
+-- n bytes of a buffer that are lent, once they are filled
+pub lent_placed : (f : ℕ → ℕ) (b : List ℕ) (at n : ℕ) → at + n ≤ length b
+    → (p : List ℕ) → p ≡ firsts f (length (take (at + n - at) (drop at b))) → put_mid at (at + n - at) b p ≡ placed b at (firsts f n)
+lent_placed f b at n h p e =
+    let m : length (take (at + n - at) (drop at b)) ≡ n =
+    length-take-le (at + n - at) (drop at b) (rw length-drop (omega arith)) ∙ omega arith in
+    let k = length_firsts f n in
+    (λ i. put_mid at (at + sym k i - at) b ((e ∙ ap (firsts f) m) i)) ∙ placed_part b at (firsts f n) (omega (arith, k))
 
 -- byte j of entry i is within n entries of w bytes, and so is column j
 pub entry_within : (w n i j : ℕ) → i < n → j < w → j + w * i < w * n
@@ -187,6 +214,11 @@ module _ (s : List ℕ) (h n w : ℕ) (b : List ℕ) (at : ℕ) where
   cross_none z =
       let none : crossed n w (drop h s) ≡ [] = ap (λ k. crossed k w (drop h s)) z ∙ crossed_none w (drop h s) in
       ap (placed b at) (sym (append-nil (take h s)) ∙ ap (λ l. take h s ++ l) (sym none))
+
+  pub cross_out : length s ≡ h + w * n → length b < at + length s → length b < at + length (take h s ++ crossed n w (drop h s))
+  cross_out e l =
+      let f : length (take h s) ≡ h = length-take-le h s (omega arith) in
+      omega (arith, l, length-append (take h s) (crossed n w (drop h s)), f, length_crossed n w (drop h s), mul_comm n w)
 
   pub cross_done : length s ≡ h + w * n → at + length s ≤ length b
       → crossed_to s h n w (placed b at (take h s)) at w ≡ placed b at (take h s ++ crossed n w (drop h s))

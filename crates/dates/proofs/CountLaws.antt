@@ -11,9 +11,8 @@ use Rattle.calendar.specs.Calendar.{leap, days_in, date_exists}
 use Rattle.ranges.specs.Ranges.{zone}
 use Rattle.fields_46.specs.declared.Time.{Time}
 use Rattle.dates.specs.declared.Date.{Date}
-use Rattle.dates.specs.declared.Rolled.{Rolled}
 use Rattle.dates.specs.declared.DateTime.{DateTime}
-use Rattle.dates.specs.Dates.{exists, day_after, granted_to, rolled_to, forward_of, back_of}
+use Rattle.dates.specs.Dates.{Rolled, exists, day_after, granted_to, rolled_to, forward_of, back_of}
 use Rattle.dates.specs.UtcTime.{zone_seconds, negative, local_date, local_second, Answer, gives, refuses, on_day, from_fields, falls_on}
 use Rattle.dates.specs.Meaning.{day_number, instant, InUtc, last_date, Beyond}
 use Rattle.dates.proofs.DayLaws.{day_of}

@@ -8,6 +8,7 @@ use native.Mathlib.Omega.{arith}
 use borrow.Author.Tests.{eqb-true, ltb-true}
 use lib.Dec.{eqb, leb, ltb}
 use lib.ListN.{length}
+use Rattle.std.specs.Prelude.{Result, Ok, Err}
 use Rattle.octets.specs.Bytes.{byte, Bytes}
 use Rattle.numbers.specs.Number.{number_at}
 use Rattle.numbers.specs.Signed.{int8}
@@ -19,7 +20,6 @@ use Rattle.kinds.proofs.OnlyLaws.{judged_46}
 use Rattle.encoding.proofs.DecodedLaws as decoded
 use Rattle.fields_46.specs.Fields.{fields_of, decoded_of}
 use Rattle.fields_46.specs.declared.Time.{Time}
-use Rattle.fields_46.specs.declared.Decoded.{Decoded}
 use Rattle.dates.specs.Dates.{exists}
 use Rattle.dates.specs.UtcTime.{local_date}
 
@@ -58,17 +58,16 @@ unfolding fields_of
 year_fits d b l = omega (arith, number_in d 6 2 (omega arith), part_lt d 6 2 b (omega arith))
 
 -- fields that were decoded are those of data that nothing refuses
-abbrev held : Decoded → Option Time
-held (Decoded.Fields f) = some f
-held (Decoded.Refused v) = none
+abbrev held : Result Time ℕ → Option Time
+held (Ok f) = some f
+held (Err v) = none
 
 abbrev or_other : Time → Option Time → Time
 or_other g (some f) = f
 or_other g none = g
 
-pub decoded_in_range : (d : List ℕ) (f : Time) → decoded_of d ≡ Decoded.Fields f → InRange f
-unfolding decoded_of
+pub decoded_in_range : (d : List ℕ) (f : Time) → decoded_of d ≡ Ok f → InRange f
 decoded_in_range d f e =
-    let a = decoded.answered held Decoded.Fields Decoded.Refused (Decoded.Fields (fields_of d)) (content 0x46 d) f (λ g. refl) (λ n. refl) e in
+    let a = decoded.answered held Ok Err (Ok (fields_of d)) (content 0x46 d) f (λ g. refl) (λ n. refl) e in
     let same : fields_of d ≡ f = ap (or_other f) a.1 in
     rw (← same) (in_range_lem d a.0)

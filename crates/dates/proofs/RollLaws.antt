@@ -29,9 +29,9 @@ module _ (d t : Date) where
       go true = refl
       go false = refl
 
-  pub rolled : rollable d ≡ true → 1999 ≤ t.year → t.year ≤ 65535 → granted_to t ≡ rolled_to d t
+  pub is_rolled : rollable d ≡ true → 1999 ≤ t.year → t.year ≤ 65535 → granted_to t ≡ rolled_to d t
   unfolding rolled_to
-  rolled e l h = λ k. cond (sym e k && sym (in_years_lem t.year l h) k) (granted_to t) (refused_at d)
+  is_rolled e l h = λ k. cond (sym e k && sym (in_years_lem t.year l h) k) (granted_to t) (refused_at d)
 
 year_from : (d : Date) → rollable d ≡ true → 1999 ≤ d.year
 year_from d e = leb-true 1999 d.year ((and-eq-true_iff (exists d) (leb 1999 d.year)).0 e).1
@@ -71,7 +71,7 @@ module _ (d : Date) where
 
   module _ (e : rollable d ≡ true) where
     to : (t u : Date) → u ≡ t → 1999 ≤ t.year → t.year ≤ 65535 → granted_to t ≡ rolled_to d u
-    to t u q l h = rolled d t e l h ∙ ap (rolled_to d) (sym q)
+    to t u q l h = is_rolled d t e l h ∙ ap (rolled_to d) (sym q)
 
     pub forward_day : d.year ≤ 65535 → d.day < last → granted_to (record { day = d.day + 1; month = d.month; year = d.year }) ≡ forward_of d
     forward_day y h = to _ (day_after d) (next_day h) (year_from d e) y

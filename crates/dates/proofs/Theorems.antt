@@ -8,10 +8,9 @@ use native.Mathlib.Omega.{arith}
 use borrow.Author.Tests.{le-leb, leb-true}
 use lib.Dec.{leb}
 use Rattle.dates.specs.declared.Date.{Date}
-use Rattle.dates.specs.declared.Rolled.{Rolled}
-use Rattle.dates.specs.Dates.{exists, day_after, day_before, in_years, granted_to, refused_at, rolled_to, forward_of, back_of}
+use Rattle.dates.specs.Dates.{Rolled, exists, day_after, day_before, in_years, granted_to, refused_at, rolled_to, forward_of, back_of}
 use Rattle.dates.specs.Meaning.{day_number, Called, first_date, last_date}
-use Rattle.dates.proofs.RollLaws.{rollable, rolled, forward_day, forward_month, forward_year, back_day, back_month, back_year}
+use Rattle.dates.proofs.RollLaws.{rollable, is_rolled, forward_day, forward_month, forward_year, back_day, back_month, back_year}
 use Rattle.dates.proofs.DayLaws as day
 use Rattle.dates.proofs.DayLaws.{Day, Ahead, Behind, day_of, ahead, behind}
 
@@ -66,7 +65,7 @@ module _ (d : Date) (z : (forward_of d).refusal ≡ 0) where
       let l = day.after_year d asked.day in
       ap back_of forward_is
       ∙ ap (rolled_to (day_after d)) (day.before_after d asked.day)
-      ∙ sym (rolled (day_after d) d (may_roll (day_after d) e asked.low) asked.from (omega (arith, l, asked.high)))
+      ∙ sym (is_rolled (day_after d) d (may_roll (day_after d) e asked.low) asked.from (omega (arith, l, asked.high)))
 
 -- ---- back: the day before exists, its number is one less, and rolling forward restores the date, whose year has 16 bits
 
@@ -88,7 +87,7 @@ module _ (d : Date) (z : (back_of d).refusal ≡ 0) where
       let e = day.before_exists d asked_back.day in
       ap forward_of back_is
       ∙ ap (rolled_to (day_before d)) (day.after_before d asked_back.day (omega (arith, asked_back.from)))
-      ∙ sym (rolled (day_before d) d (may_roll (day_before d) e asked_back.low) asked_back.from y)
+      ∙ sym (is_rolled (day_before d) d (may_roll (day_before d) e asked_back.low) asked_back.from y)
 
 -- ---- the same of two calls in place, one after the other
 

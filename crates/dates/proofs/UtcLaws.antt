@@ -7,13 +7,12 @@ use native.Mathlib.Omega.{arith}
 use borrow.Author.Tests.{eq-eqb, ne_eqb, lt-ltb, le-ltb, ltb-true, ltb-false}
 use lib.Dec.{eqb, ltb}
 use lib.IntN.{ℤ, pos, negsuc, neg_ℤ, nat_abs, pos-ne-negsuc, ◌+ℤ◌, ◌-ℤ◌, +ℤ_assoc}
+use Rattle.std.specs.Prelude.{Result, Ok, Err}
 use Rattle.kinds.specs.Kinds.{content}
 use Rattle.fields_46.specs.Fields.{fields_of, decoded_of}
 use Rattle.fields_46.specs.declared.Time.{Time}
-use Rattle.fields_46.specs.declared.Decoded.{Decoded}
 use Rattle.dates.specs.declared.Date.{Date}
-use Rattle.dates.specs.declared.Rolled.{Rolled}
-use Rattle.dates.specs.Dates.{granted_to, forward_of, back_of}
+use Rattle.dates.specs.Dates.{Rolled, granted_to, forward_of, back_of}
 use Rattle.dates.specs.UtcTime.{zone_seconds, local_date, local_second, Answer, gives, refuses, on_day, utc_at, from_fields, utc_of, falls_on}
 
 -- ---- a second of the day before
@@ -70,15 +69,15 @@ module _ (d : Date) where
 
 -- ---- what was decoded, answered
 
-abbrev pub answered : Decoded → Answer
-answered (Decoded.Fields f) = from_fields f
-answered (Decoded.Refused v) = refuses v
+abbrev pub answered : Result Time ℕ → Answer
+answered (Ok f) = from_fields f
+answered (Err v) = refuses v
 
 pub answered_is : (d : List ℕ) → answered (decoded_of d) ≡ utc_of d
-unfolding decoded_of utc_of
+unfolding utc_of
 answered_is d = go (eqb (content 0x46 d) 0)
   where
-    go : (t : Bool) → answered (cond t (Decoded.Fields (fields_of d)) (Decoded.Refused (content 0x46 d)))
+    go : (t : Bool) → answered (cond t (Ok (fields_of d)) (Err (content 0x46 d)))
         ≡ cond t (from_fields (fields_of d)) (refuses (content 0x46 d))
     go true = refl
     go false = refl

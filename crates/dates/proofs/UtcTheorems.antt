@@ -2,13 +2,16 @@
 use mathlib.Core.Path.{◌≡◌, refl, sym, ap, ◌∙◌}
 use mathlib.Core.Bool.{Bool, true, false, cond, true≢false}
 use mathlib.Core.List.{List}
-use mathlib.Core.Option.{Option, none, some, none-ne-some}
+use mathlib.Core.Option.{Option, none, some, none-ne-some, some-injective}
 use Prim.Native.Nat.{ℕ, ◌%◌, ◌≤◌, ◌<◌}
 use native.Mathlib.Omega.{arith}
 use borrow.Author.Tests.{eq-eqb, eqb-true, eqb-false, ne_eqb, ltb-true, ltb-false}
 use lib.Dec.{eqb, ltb}
 use lib.ListN.{length}
 use lib.IntN.{nat_abs}
+use Rattle.std.specs.Prelude.{Result, Ok, Err}
+use Rattle.refusals.specs.declared.Refusal.{Refusal}
+use Rattle.refusals.proofs.NumberLaws as numbers
 use Rattle.octets.specs.Bytes.{Bytes}
 use Rattle.ranges.specs.Ranges.{in_46}
 use Rattle.kinds.specs.Kinds.{content}
@@ -16,10 +19,8 @@ use Rattle.kinds.proofs.OnlyLaws.{judged_46}
 use Rattle.fields_46.specs.Fields.{fields_of}
 use Rattle.fields_46.specs.declared.Time.{Time}
 use Rattle.dates.specs.declared.Date.{Date}
-use Rattle.dates.specs.declared.Rolled.{Rolled}
 use Rattle.dates.specs.declared.DateTime.{DateTime}
-use Rattle.dates.specs.declared.answer.Utc.{Utc}
-use Rattle.dates.specs.Dates.{day_after, granted_to, forward_of, back_of}
+use Rattle.dates.specs.Dates.{Rolled, day_after, granted_to, forward_of, back_of}
 use Rattle.dates.specs.UtcTime.{local_date, Answer, refuses, answer_of, on_day, from_fields, utc_of, falls_on}
 use Rattle.dates.specs.Meaning.{day_number, instant, InUtc, Beyond, First}
 use Rattle.dates.specs.Meaning.First.{by_length, by_range, by_year, accepted}
@@ -32,16 +33,11 @@ use Rattle.dates.proofs.Theorems as roll
 
 -- ---- a number and a value are one answer of the code: its contract leaves nothing free
 
-abbrev enum_of : ℕ → Option DateTime → Utc
-enum_of v none = Utc.Refused v
-enum_of v (some t) = Utc.Time t
-
-pub settled : (o p : Utc) → answer_of o ≡ answer_of p → o ≡ p
-settled o p e = sym (back o) ∙ ap (λ (a : Answer). enum_of a.number a.value) e ∙ back p
-  where
-    back : (q : Utc) → enum_of (answer_of q).number (answer_of q).value ≡ q
-    back (Utc.Time t) = refl
-    back (Utc.Refused v) = refl
+pub settled : (o p : Result DateTime Refusal) → answer_of o ≡ answer_of p → o ≡ p
+settled (Ok t) (Ok u) e = ap Ok (some-injective t u (ap (λ (a : Answer). a.value) e))
+settled (Ok t) (Err r) e = absurd (numbers.positive r (sym (ap (λ (a : Answer). a.number) e)))
+settled (Err r) (Ok t) e = absurd (numbers.positive r (ap (λ (a : Answer). a.number) e))
+settled (Err q) (Err r) e = ap Err (numbers.one_number q r (ap (λ (a : Answer). a.number) e))
 
 -- ---- what is given is the time in UTC, and no other one is
 
@@ -55,7 +51,7 @@ accepted_data d t = go (eqb (content 0x46 d) 0) refl
     go false q e = absurd (none-ne-some t e)
 
 -- t as the call returns it, by its contract
-pub in_utc : (d : List ℕ) (t : DateTime) → answer_of (Utc.Time t) ≡ utc_of d → InUtc (fields_of d) t
+pub in_utc : (d : List ℕ) (t : DateTime) → answer_of (Ok t) ≡ utc_of d → InUtc (fields_of d) t
 in_utc d t e =
     let a = accepted_data d t (sym (ap (λ (x : Answer). x.value) e)) in
     let i = in_range_lem d a.0 in

@@ -1,31 +1,16 @@
 -- A zone in range, its sizes and signs, and what is left of a second when it is subtracted.
-use mathlib.Core.Path.{◌≡◌, refl, sym, ap, ◌∙◌}
-use mathlib.Core.Bool.{Bool, true, false, cond, ◌&&◌, and-eq-true_iff, true≢false}
-use Prim.Native.Nat.{ℕ, zero, suc, ◌+◌, ◌-◌, ◌*◌, ◌≤◌, ◌<◌}
+use mathlib.Core.Path.{◌≡◌, sym, ap, ◌∙◌}
+use mathlib.Core.Bool.{true, cond, ◌&&◌, and-eq-true_iff}
+use Prim.Native.Nat.{ℕ, zero, suc, ◌+◌, ◌-◌, ◌*◌, ◌≤◌}
 use native.Mathlib.Omega.{arith}
 use borrow.Author.Tests.{le-ltb, leb-true}
-use lib.Dec.{leb, leb-zero}
+use lib.Dec.{leb}
 use lib.IntN.{ℤ, pos, negsuc, neg_ℤ, nat_abs, ◌+ℤ◌, ◌-ℤ◌, ◌*ℤ◌, +ℤ_assoc, neg_ℤ-+ℤ, neg_ℤ-neg_ℤ}
 use lib.Signed.{le_z}
-use mir.Syntax.{w8}
-use mir.Val.{SFits, to_z, of_z}
-use mir.ValLaws.{to_z-of_z}
-use Rattle.numbers.specs.Signed.{unsigned}
 use Rattle.ranges.specs.Ranges.{zone}
 use Rattle.dates.specs.UtcTime.{negative, zone_seconds}
 
 -- ---- sizes
-
--- v is the byte of z
-pub low_half : (v : ℕ) (z : ℤ) → v ≡ unsigned 8 z → SFits w8 z → v < 128 → v ≡ nat_abs z
-unfolding unsigned
-low_half v (pos x) e f h = e
-low_half v (negsuc x) e f h = absurd (omega (arith, f.sfits))
-
-pub high_half : (v : ℕ) (z : ℤ) → v ≡ unsigned 8 z → SFits w8 z → 128 ≤ v → 256 - v ≡ nat_abs z
-unfolding unsigned
-high_half v (pos x) e f h = absurd (omega (arith, f.sfits))
-high_half v (negsuc x) e f h = omega (arith, f.sfits)
 
 size_le : (n : ℕ) (z : ℤ) → le_z (negsuc n) z && le_z z (pos (suc n)) ≡ true → nat_abs z ≤ suc n
 size_le n (pos x) e = leb-true x (suc n) e
@@ -39,25 +24,6 @@ pub sizes : (hours minutes : ℤ) → zone hours minutes ≡ true → Sizes hour
 sizes h m e =
     let b = (and-eq-true_iff (le_z (negsuc 12) h && le_z h (pos 13)) (le_z (negsuc 58) m && le_z m (pos 59))).0 e in
     record { hours_le = size_le 12 h b.0; minutes_le = size_le 58 m b.1 }
-
--- ---- signs, as the code tests them
-
-test_is : (z : ℤ) → SFits w8 z → (b : Bool) → le_z (pos 0) (to_z w8 (of_z w8 z)) ≡ b → le_z (pos 0) z ≡ b
-test_is z f b e = ap (le_z (pos 0)) (sym (to_z-of_z w8 z f)) ∙ e
-
-pub not_negative : (z : ℤ) → SFits w8 z → le_z (pos 0) (to_z w8 (of_z w8 z)) ≡ true → negative z ≡ false
-not_negative z f e = go z (test_is z f true e)
-  where
-    go : (y : ℤ) → le_z (pos 0) y ≡ true → negative y ≡ false
-    go (pos x) q = refl
-    go (negsuc x) q = absurd (true≢false (sym q))
-
-pub is_negative : (z : ℤ) → SFits w8 z → le_z (pos 0) (to_z w8 (of_z w8 z)) ≡ false → negative z ≡ true
-is_negative z f e = go z (test_is z f false e)
-  where
-    go : (y : ℤ) → le_z (pos 0) y ≡ false → negative y ≡ true
-    go (pos x) q = absurd (true≢false (sym (leb-zero x) ∙ q))
-    go (negsuc x) q = refl
 
 -- ---- what is left
 

@@ -1,8 +1,9 @@
 -- Document 02, Point 9: a date rolled forward and back one day.
-use Rattle.std.specs.Prelude.{Bool, cond, ◌&&◌, ℕ, ◌+◌, ◌-◌, leb, ltb}
+use Rattle.std.specs.Prelude.{Bool, cond, ◌&&◌, ℕ, ◌+◌, ◌-◌, leb, ltb, Result, Ok, Err}
+use Rattle.refusals.specs.declared.Refusal.{Refusal}
+use Rattle.refusals.specs.Numbers.{number}
 use Rattle.calendar.specs.Calendar.{days_in, date_exists}
 use Rattle.dates.specs.declared.Date.{Date}
-use Rattle.dates.specs.declared.Rolled.{Rolled}
 
 abbrev pub exists : Date → Bool
 exists d = date_exists d.day d.month d.year
@@ -25,12 +26,22 @@ day_before d =
 abbrev pub in_years : ℕ → Bool
 in_years y = leb 1999 y && leb y 65535
 
+-- what a roll answers, by number: 0 and a date rolled, or a refusal's and the date as it was
+pub record Rolled : Type 0 where
+  pub refusal : ℕ
+  pub date : Date
+
 abbrev pub granted_to : Date → Rolled
 granted_to d = record { refusal = 0; date = d }
 
 -- refused, the date is as before
 abbrev pub refused_at : Date → Rolled
 refused_at d = record { refusal = 18; date = d }
+
+-- the answer that a call returned for d
+abbrev pub rolled : Date → Result Date Refusal → Rolled
+rolled d (Ok t) = granted_to t
+rolled d (Err r) = record { refusal = number r; date = d }
 
 -- d rolled to t: d exists, its year is not below 1999, and that of t is from 1999 to 65,535
 unfoldable pub rolled_to : Date → Date → Rolled

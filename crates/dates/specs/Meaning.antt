@@ -5,9 +5,8 @@ use Rattle.ranges.specs.Ranges.{in_46}
 use Rattle.fields_46.specs.Fields.{fields_of}
 use Rattle.fields_46.specs.declared.Time.{Time}
 use Rattle.dates.specs.declared.Date.{Date}
-use Rattle.dates.specs.declared.Rolled.{Rolled}
 use Rattle.dates.specs.declared.DateTime.{DateTime}
-use Rattle.dates.specs.Dates.{exists}
+use Rattle.dates.specs.Dates.{Rolled, exists}
 use Rattle.dates.specs.UtcTime.{zone_seconds, local_date, local_second}
 
 -- the number of a day: the days of the years before its own, from year 0 on, those of the months before its own, and the day

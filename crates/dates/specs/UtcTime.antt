@@ -1,14 +1,14 @@
 -- Document 02, Point 9: the date and the second of the day in UTC, from 46h data.
-use Rattle.std.specs.Prelude.{Bool, true, false, cond, List, ℕ, suc, ◌-◌, ◌%◌, eqb, ltb, ℤ, pos, negsuc, ◌+ℤ◌, ◌-ℤ◌, ◌*ℤ◌}
+use Rattle.std.specs.Prelude.{Bool, true, false, cond, List, ℕ, suc, ◌-◌, ◌%◌, eqb, ltb, ℤ, pos, negsuc, ◌+ℤ◌, ◌-ℤ◌, ◌*ℤ◌, Result, Ok, Err}
 use Rattle.std.proofs.Math.Option.{Option, none, some}
+use Rattle.refusals.specs.declared.Refusal.{Refusal}
+use Rattle.refusals.specs.Numbers.{number}
 use Rattle.kinds.specs.Kinds.{content}
 use Rattle.fields_46.specs.Fields.{fields_of}
 use Rattle.fields_46.specs.declared.Time.{Time}
 use Rattle.dates.specs.declared.Date.{Date}
-use Rattle.dates.specs.declared.Rolled.{Rolled}
 use Rattle.dates.specs.declared.DateTime.{DateTime}
-use Rattle.dates.specs.declared.answer.Utc.{Utc}
-use Rattle.dates.specs.Dates.{granted_to, forward_of, back_of}
+use Rattle.dates.specs.Dates.{Rolled, granted_to, forward_of, back_of}
 
 -- hours and minutes, each with its own sign
 abbrev pub zone_seconds : ℤ → ℤ → ℤ
@@ -32,10 +32,10 @@ gives d s = record { number = 0; value = some (record { second = s; date = d }) 
 abbrev pub refuses : ℕ → Answer
 refuses v = record { number = v; value = none }
 
--- the answer that each case of the code's enum is
-abbrev pub answer_of : Utc → Answer
-answer_of (Utc.Time t) = gives t.date t.second
-answer_of (Utc.Refused v) = refuses v
+-- the answer that a call returned
+abbrev pub answer_of : Result DateTime Refusal → Answer
+answer_of (Ok t) = gives t.date t.second
+answer_of (Err r) = refuses (number r)
 
 -- a second of the day rolled to, if that was granted
 abbrev pub on_day : Rolled → ℕ → Answer

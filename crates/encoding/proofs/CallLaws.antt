@@ -5,7 +5,7 @@ use mathlib.Core.List.{List}
 use Prim.Native.Nat.{ℕ, ◌≤◌}
 use lib.ListN.{length, take}
 use Rattle.octets.specs.Placing.{placed}
-use Rattle.octets.specs.declared.Written.{Written}
+use Rattle.octets.specs.Delivery.{Written}
 use Rattle.octets.specs.Delivery.{accepted, written_of, filled_of}
 use Rattle.octets.proofs.DeliveryLaws.{writes, written_judged, written_back}
 

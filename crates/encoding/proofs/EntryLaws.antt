@@ -3,21 +3,23 @@ use mathlib.Core.Path.{◌≡◌, refl, sym, ap, ◌∙◌}
 use mathlib.Core.Bool.{Bool, true, false, cond, ◌&&◌, and-eq-true_iff}
 use mathlib.Core.List.{List, [], ◌∷◌, ◌++◌, append_assoc, append-nil}
 use mathlib.Core.Option.{some}
-use borrow.Author.Tests.{eqb-true, eqb-false, leb-true, lt-ltb, le-ltb}
+use borrow.Author.Tests.{eqb-true, eqb-false, leb-true, le-leb, lt-ltb, le-ltb}
 use Prim.Native.Nat.{ℕ, zero, suc, ◌+◌, ◌*◌, ◌-◌, ◌/◌, ◌%◌, ◌≤◌, ◌<◌}
-use native.Mathlib.Nat.{add-zero, add-suc, mul-zero, mul-suc, mul-le-mul_left}
+use native.Mathlib.Nat.{add-zero, add-suc, mul-zero, mul-suc, mul-le-mul_left, mul-add}
 use native.Mathlib.Numerals.{add-one}
 use native.Mathlib.Omega.{arith}
 use lib.Dec.{eqb, leb, ltb}
 use lib.ListN.{length, take, drop, get_or, set, replicate, length-append, length-drop}
+use Rattle.std.proofs.lemmas.List.{take-take, drop-take}
 use lib.Seq.{set_at, append_snoc, take_all, take-add, take-suc, take-append-le, take-append-add, take_at, length-take-le}
 use lib.Seq.{drop-append-le, drop_at, drop-drop, get_or_at, get_or-take, get_or-drop}
 use Rattle.octets.specs.Placing.{placed}
-use Rattle.octets.proofs.PlacingLaws.{length_placed, placed_more, placed_fits}
+use Rattle.octets.proofs.PlacingLaws.{length_placed, placed_more, placed_fits, placed_whole}
+use Rattle.octets.proofs.DeliveryLaws.{placed_back}
 use Rattle.octets.specs.Bytes.{byte, Bytes}
 use Rattle.kinds.specs.Kinds.{table, row_in, entries, allows, length_ok, content}
 use Rattle.encoding.proofs.AcceptedLaws.{accepted_parts}
-use Rattle.encoding.specs.Entries.{Series, firsts, laid_out, entry_slice, entries_of, entries_data, kept_entries}
+use Rattle.encoding.specs.Entries.{Series, firsts, laid_out, entry_slice, entries_of, entries_data, Long, entries_into, kept_entries}
 
 pub length_firsts : {A : Type 0} (f : ℕ → A) (n : ℕ) → length (firsts f n) ≡ n
 unfolding firsts
@@ -123,10 +125,6 @@ laid_join g h n (suc m) =
     ∙ ap (laid_out (λ i. cond (ltb i n) (g i) (h (i - n)))) (sym (add-suc n m))
 
 module _ {E : Type 0} (s : Series E) where
-  -- each of the first n entries takes as many bytes as the width says
-  abbrev pub Long : List E → ℕ → Type 0
-  Long es n = (i : ℕ) → i < n → length (s.entry_data (get_or es i s.blank)) ≡ s.width
-
   pub entry_length : (d : List ℕ) (i : ℕ) → s.header + s.width * i + s.width ≤ length d → length (entry_slice s d i) ≡ s.width
   entry_length d i h = length-take-le s.width (drop (s.header + s.width * i) d) (rw length-drop (omega arith))
 
@@ -137,6 +135,52 @@ module _ {E : Type 0} (s : Series E) where
   entry_bytes_lem d i h y j l =
       let k : j < s.width = omega (arith, entry_length d i h) in
       rw (entry_byte d i j k) (y (s.header + s.width * i + j) (omega arith))
+
+  -- the bytes of the entries that are left past the first i of n
+  abbrev pub bytes_left : List ℕ → ℕ → ℕ → List ℕ
+  bytes_left d n i = take (s.width * (n - i)) (drop (s.header + s.width * i) d)
+
+  -- those of one entry come off their front
+  pub next_entry : (d : List ℕ) (n i : ℕ) → 0 < s.width → (left x rest : List ℕ) → left ≡ bytes_left d n i → left ≡ x ++ rest
+      → length x ≡ s.width → (i < n) × (x ≡ entry_slice s d i) × (rest ≡ bytes_left d n (i + 1))
+  next_entry d n i wide left x rest q e l = go (n - i) refl
+    where
+      from : List ℕ
+      from = drop (s.header + s.width * i) d
+
+      go : (m : ℕ) → n - i ≡ m → (i < n) × (x ≡ entry_slice s d i) × (rest ≡ bytes_left d n (i + 1))
+      go zero z =
+          let none : x ++ rest ≡ [] = sym e ∙ q ∙ ap (λ (k : ℕ). take (s.width * k) from) z ∙ ap (λ (k : ℕ). take k from) (mul-zero s.width) in
+          absurd (omega (arith, l, ap length none, length-append x rest))
+      go (suc m) z =
+          let all : x ++ rest ≡ take (s.width + s.width * m) from =
+          sym e ∙ q ∙ ap (λ (k : ℕ). take (s.width * k) from) z ∙ ap (λ (k : ℕ). take k from) (omega (arith, mul-suc s.width m)) in
+          let next : m ≡ n - (i + 1) = omega arith in
+          let place : s.header + s.width * i + s.width ≡ s.header + s.width * (i + 1) = omega (arith, mul-suc s.width i, add-one i) in (
+            omega arith,
+            sym (take_at x rest s.width l) ∙ ap (take s.width) all ∙ take-take s.width (s.width + s.width * m) from (omega arith),
+            sym (drop_at x rest s.width l)
+                ∙ ap (drop s.width) all
+                ∙ drop-take s.width (s.width * m) from
+                ∙ (λ k. take (s.width * next k) (drop-drop s.width (s.header + s.width * i) d k))
+                ∙ ap (λ (k : ℕ). take (s.width * (n - (i + 1))) (drop k d)) place,
+          )
+
+  -- and where there is none for one more, there is none left
+  pub no_entry : (d : List ℕ) (n i : ℕ) → s.header + s.width * n ≤ length d → i ≤ n → (left : List ℕ) → left ≡ bytes_left d n i
+      → length left < s.width → i ≡ n
+  no_entry d n i room h left q l = go (n - i) refl
+    where
+      go : (m : ℕ) → n - i ≡ m → i ≡ n
+      go zero z = omega arith
+      go (suc m) z =
+          let n_is : n ≡ i + suc m = omega arith in
+          let all : s.width * n ≡ s.width * i + s.width * suc m = ap (λ (k : ℕ). s.width * k) n_is ∙ mul-add s.width i (suc m) in
+          let long : length left ≡ s.width * suc m =
+          ap length q
+          ∙ ap (λ (k : ℕ). length (take (s.width * k) (drop (s.header + s.width * i) d))) z
+          ∙ length-take-le (s.width * suc m) (drop (s.header + s.width * i) d) (rw length-drop (omega arith)) in
+          absurd (omega (arith, mul-suc s.width m))
 
   -- no entry read yet
   pub read_none : (d : List ℕ) → replicate s.most s.blank ≡ entries_of s d 0
@@ -151,10 +195,10 @@ module _ {E : Type 0} (s : Series E) where
       (λ k. set (q k) i ((r ∙ (λ m. s.entry_of (take (n m) (drop (p m) d)))) k))
       ∙ fill_more (λ j. s.entry_of (entry_slice s d j)) s.blank s.most i l
 
-  pub length_entries : (es : List E) (n : ℕ) → Long es n → length (entries_data s es n) ≡ s.width * n
+  pub length_entries : (es : List E) (n : ℕ) → Long s es n → length (entries_data s es n) ≡ s.width * n
   length_entries es n long = length_laid (λ i. s.entry_data (get_or es i s.blank)) s.width n long
 
-  pub long_more : (es : List E) (i : ℕ) → Long es i → length (s.entry_data (get_or es i s.blank)) ≡ s.width → Long es (i + 1)
+  pub long_more : (es : List E) (i : ℕ) → Long s es i → length (s.entry_data (get_or es i s.blank)) ≡ s.width → Long s es (i + 1)
   long_more es i long one j h = go (eqb j i) refl
     where
       go : (t : Bool) → eqb j i ≡ t → length (s.entry_data (get_or es j s.blank)) ≡ s.width
@@ -162,13 +206,13 @@ module _ {E : Type 0} (s : Series E) where
       go false e = let q = eqb-false j i e in long j (omega arith)
 
   -- one entry more, placed right after those before it
-  pub laid_more : (b : List ℕ) (es : List E) (i at : ℕ) → Long es (i + 1) → at ≡ s.header + s.width * i → at + s.width ≤ length b
+  pub laid_more : (b : List ℕ) (es : List E) (i at : ℕ) → Long s es (i + 1) → at ≡ s.header + s.width * i → at + s.width ≤ length b
       → (all : List ℕ) → all ≡ placed b s.header (entries_data s es i) → (x : List ℕ) → x ≡ s.entry_data (get_or es i s.blank)
       → placed all at x ≡ placed b s.header (entries_data s es (i + 1))
   laid_more b es i at = laid_next (λ j. s.entry_data (get_or es j s.blank)) s.width b s.header i at
 
   -- all entries are placed: the header's bytes, and theirs
-  pub laid_done : (b : List ℕ) (es : List E) (n : ℕ) → Long es n → s.header + s.width * n ≤ length b
+  pub laid_done : (b : List ℕ) (es : List E) (n : ℕ) → Long s es n → s.header + s.width * n ≤ length b
       → take (s.header + s.width * n) (placed b s.header (entries_data s es n)) ≡ take s.header b ++ entries_data s es n
   laid_done b es n long h =
       let l = length_entries es n long in
@@ -178,16 +222,35 @@ module _ {E : Type 0} (s : Series E) where
       let rest = drop (s.header + length d) b in
       rw (placed_fits b s.header d (omega arith), t, take-append-add (take s.header b) (d ++ rest) (length d), take_at d rest (length d) refl)
 
-  pub laid_whole : (b : List ℕ) (es : List E) (n : ℕ) → Long es n → s.header + s.width * n ≡ length b
+  pub laid_whole : (b : List ℕ) (es : List E) (n : ℕ) → Long s es n → s.header + s.width * n ≡ length b
       → placed b s.header (entries_data s es n) ≡ take s.header b ++ entries_data s es n
   laid_whole b es n long h =
       let l = length_placed b s.header (entries_data s es n) in
       sym (take_all (s.header + s.width * n) (placed b s.header (entries_data s es n)) (omega arith))
       ∙ laid_done b es n long (omega arith)
 
+  -- the first n entries, laid out in a buffer with room for as many, are its first bytes
+  pub laid_back : (b : List ℕ) (es : List E) (n : ℕ) → n ≤ length es → Long s (take n es) (length (take n es)) → s.width * n ≤ length b
+      → take (s.width * n) (entries_into s (take n es) b) ≡ entries_data s es n
+  laid_back b es n h long room =
+      let l : length (take n es) ≡ n = length-take-le n es h in
+      let same : entries_data s (take n es) n ≡ entries_data s es n =
+      laid_same (λ i. s.entry_data (get_or (take n es) i s.blank)) (λ i. s.entry_data (get_or es i s.blank)) n
+      (λ i k. ap s.entry_data (get_or-take n es i s.blank k)) in
+      let w : length (entries_data s es n) ≡ s.width * n = ap length (sym same) ∙ length_entries (take n es) n (λ i k. long i (omega arith)) in
+      rw (l, le-leb (0 + s.width * n) (length b) (omega arith), same)
+      (ap (λ (k : ℕ). take k (placed b 0 (entries_data s es n))) (sym w) ∙ placed_back b (entries_data s es n) (omega arith))
+
+  -- all of the entries, in a buffer of just their length
+  pub laid_all : (b : List ℕ) (es : List E) → Long s es (length es) → s.width * length es ≡ length b
+      → entries_into s es b ≡ entries_data s es (length es)
+  laid_all b es long room =
+      rw (le-leb (0 + s.width * length es) (length b) (omega arith))
+      (placed_whole b (entries_data s es (length es)) (length_entries es (length es) long ∙ room))
+
   -- what is read of one entry is read of all of them
   pub read_laid : (Fits : E → Type 0) → ((e : E) → Fits e → s.entry_of (s.entry_data e) ≡ e)
-      → (top : List ℕ) → length top ≡ s.header → (es : List E) (n : ℕ) → Long es n → n ≤ length es
+      → (top : List ℕ) → length top ≡ s.header → (es : List E) (n : ℕ) → Long s es n → n ≤ length es
       → ((i : ℕ) → i < n → Fits (get_or es i s.blank))
       → entries_of s (top ++ entries_data s es n) n ≡ kept_entries s es n
   read_laid Fits one top t es n long h fit =
@@ -219,7 +282,7 @@ module _ (id h w m : ℕ) (f : List ℕ → Bool) (d : List ℕ) where
   entry_count row wide c =
       let n = length d - h in
       let p = (and-eq-true_iff (allows (entries id h w m f).kind (length d)) _).0 (accepted_parts id (entries id h w m f) d row c).0 in
-      let a : leb h (length d) && eqb (n % w) 0 && leb (n / w) m ≡ true = rw wide at p.0 in
+      let a : leb h (length d) && eqb (n % w) 0 && leb (n / w) m ≡ true = p.0 in
       let q = (and-eq-true_iff (leb h (length d) && eqb (n % w) 0) (leb (n / w) m)).0 a in
       let r = (and-eq-true_iff (leb h (length d)) (eqb (n % w) 0)).0 q.0 in
       (leb-true h (length d) r.0, eqb-true (n % w) 0 r.1, leb-true (n / w) m q.1)

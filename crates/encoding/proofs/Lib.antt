@@ -4,3 +4,5 @@ pub mod DecodedLaws
 pub mod RoundTripLaws
 pub mod Vectors
 pub mod CallLaws
+pub mod MadeLaws
+pub mod ReadingLaws

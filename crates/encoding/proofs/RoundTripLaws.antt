@@ -1,16 +1,15 @@
 -- The round trips of the calls, from those of the fields and the data.
-use mathlib.Core.Path.{◌≡◌, sym, ap, ◌∙◌}
-use mathlib.Core.Bool.{cond}
+use mathlib.Core.Path.{◌≡◌, refl, sym, ap, ◌∙◌}
+use Rattle.std.specs.Prelude.{Result, Ok, Err}
 use mathlib.Core.List.{List}
 use mathlib.Core.Option.{Option, none, some, some-injective}
 use Prim.Native.Nat.{ℕ}
 use borrow.Author.Tests.{eq-eqb}
-use lib.Dec.{eqb}
 use lib.ListN.{take}
 use Rattle.octets.proofs.DeliveryLaws.{written_judged, written_back, writes}
-use Rattle.octets.specs.declared.Written.{Written}
+use Rattle.octets.specs.Delivery.{Written}
 use Rattle.kinds.specs.Kinds.{content}
-use Rattle.encoding.specs.Encoding.{encoded_of, encoded_into}
+use Rattle.encoding.specs.Encoding.{encoded_of, encoded_into, decoded_as}
 use Rattle.encoding.specs.RoundTrip.{EncodeDecode, DecodeEncode}
 use Rattle.octets.specs.Bytes.{Bytes}
 use Rattle.encoding.proofs.DecodedLaws.{answered}
@@ -34,21 +33,29 @@ module _ {T D : Type 0} (id : ℕ) (data_of : T → List ℕ) (decoded_of : List
         eb ∙ ap (λ (t : List ℕ). encoded_into id t b) q.1 ∙ e.1,
       )
 
--- a kind whose answer holds the fields of the data
-module _ {T D : Type 0} (id : ℕ) (fields_of : List ℕ → T) (data_of : T → List ℕ) (holding : T → D) (refused : ℕ → D) where
-  abbrev decoded : List ℕ → D
-  decoded d = cond (eqb (content id d) 0) (holding (fields_of d)) (refused (content id d))
+-- the fields of an answer, where it has any
+abbrev held : {T : Type 0} → Result T ℕ → Option T
+held (Ok f) = some f
+held (Err n) = none
 
+-- fields that were decoded are those of acceptable data
+pub decoded_fields : {T : Type 0} (id : ℕ) (fields_of : List ℕ → T) (d : List ℕ) (f : T) → decoded_as id fields_of d ≡ Ok f
+    → (content id d ≡ 0) × (fields_of d ≡ f)
+decoded_fields id fields_of d f e =
+    let q = answered held Ok Err (Ok (fields_of d)) (content id d) f (λ g. refl) (λ n. refl) e in
+    (q.0, some-injective (fields_of d) f q.1)
+
+-- a kind that is decoded by its layout
+module _ {T : Type 0} (id : ℕ) (fields_of : List ℕ → T) (data_of : T → List ℕ) where
   -- `kept` is what the data keeps of the fields
   pub encode_fields : (Fits : T → Type 0) (kept : T → T) → ((f : T) → Fits f → content id (data_of f) ≡ 0 → fields_of (data_of f) ≡ kept f)
-      → EncodeDecode id data_of decoded (λ f. holding (kept f)) Fits
+      → EncodeDecode id data_of (decoded_as id fields_of) (λ f. Ok (kept f)) Fits
   encode_fields Fits kept known =
-      encode_decode id data_of decoded (λ f. holding (kept f)) Fits (λ f h c. rw (eq-eqb _ _ c) (ap holding (known f h c)))
+      encode_decode id data_of (decoded_as id fields_of) (λ f. Ok (kept f)) Fits (λ f h c. rw (eq-eqb _ _ c) (ap Ok (known f h c)))
 
-  pub decode_fields : (held : D → Option T) → ((g : T) → held (holding g) ≡ some g) → ((n : ℕ) → held (refused n) ≡ none)
-      → ((d : List ℕ) → Bytes d → content id d ≡ 0 → data_of (fields_of d) ≡ d) → DecodeEncode id data_of decoded holding Bytes
-  decode_fields held one nothing known =
-      decode_encode id data_of decoded holding Bytes (λ d f y e.
-      let q = answered held holding refused (holding (fields_of d)) (content id d) f one nothing e in
-      let g : fields_of d ≡ f = some-injective (fields_of d) f (sym (one (fields_of d)) ∙ q.1) in
-      (q.0, ap data_of (sym g) ∙ known d y q.0))
+  pub decode_fields : ((d : List ℕ) → Bytes d → content id d ≡ 0 → data_of (fields_of d) ≡ d)
+      → DecodeEncode id data_of (decoded_as id fields_of) Ok Bytes
+  decode_fields known =
+      decode_encode id data_of (decoded_as id fields_of) Ok Bytes (λ d f y e.
+      let q = decoded_fields id fields_of d f e in
+      (q.0, ap data_of (sym q.1) ∙ known d y q.0))

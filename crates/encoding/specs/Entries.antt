@@ -1,5 +1,6 @@
 -- Entries: a header, then entries of one width, at most so many. How they are read and laid out, over any header and width.
-use Rattle.std.specs.Prelude.{List, [], ◌∷◌, ◌++◌, ℕ, zero, suc, ◌+◌, ◌*◌, ◌-◌, take, drop, get_or, replicate}
+use Rattle.std.specs.Prelude.{cond, ◌≡◌, ◌<◌, List, [], ◌∷◌, ◌++◌, ℕ, zero, suc, ◌+◌, ◌*◌, ◌-◌, ◌/◌, min, length, take, drop, get_or, replicate}
+use Rattle.octets.specs.Placing.{fits, placed}
 
 -- the entries of a kind: their place and number, and each from its bytes and as its bytes
 pub record Series (E : Type 0) : Type 0 where
@@ -33,6 +34,20 @@ module _ {E : Type 0} (s : Series E) where
   abbrev pub entries_data : List E → ℕ → List ℕ
   entries_data es n = laid_out (λ i. s.entry_data (get_or es i s.blank)) n
 
+  -- each of the first n entries takes as many bytes as the width says
+  abbrev pub Long : List E → ℕ → Type 0
+  Long es n = (i : ℕ) → i < n → length (s.entry_data (get_or es i s.blank)) ≡ s.width
+
   -- the first n entries, and blank ones past them
   abbrev pub kept_entries : List E → ℕ → List E
   kept_entries es n = take n es ++ replicate (s.most - n) s.blank
+
+  -- the entries that some bytes hold, at most so many, and blank ones past them
+  abbrev pub entries_in : ℕ → List ℕ → List E
+  entries_in most d =
+      let n = min (length d / s.width) most in
+      firsts (λ i. s.entry_of (take s.width (drop (s.width * i) d))) n ++ replicate (most - n) s.blank
+
+  -- a buffer with the bytes of entries at its start, where it has room for as many; else as it was
+  abbrev pub entries_into : List E → List ℕ → List ℕ
+  entries_into es b = cond (fits b 0 (s.width * length es)) (placed b 0 (entries_data es (length es))) b

@@ -3,7 +3,7 @@
 use Rattle.std.specs.Prelude.{List, ◌≡◌, ℕ, ◌≤◌, length, take}
 use Rattle.octets.specs.Placing.{placed}
 use Rattle.octets.specs.Delivery.{accepted}
-use Rattle.octets.specs.declared.Written.{Written}
+use Rattle.octets.specs.Delivery.{Written}
 use Rattle.encoding.specs.Encoding.{encoded_of, encoded_into}
 
 -- a kind: its identifier, the data of its fields, what its decoding answers, and the answer that holds these fields

@@ -14,434 +14,227 @@
 // refused, the refusal, the word and the count of the 168 bytes written. Both end with the buffer.
 #![tactic(auto)]
 
-use fields_47::{Use, Uses};
-use fields_52::{Entry, Visible};
+use answering::{print_octets, print_written};
+use encoding::Fields;
+use fields_47::Uses;
+use fields_52::Visible;
 use fields_f5::{Channel, Header, Measurements};
 use in_use::InUse;
-use lookup::Found;
-use octets::Written;
+use refusals::Refusal;
+use std::io;
 
-fn number(n: u64) {
-    io::write_all(1, b" ");
-    io::print_decimal(1, n);
+// Fields that are printed, changed in the entry at an index, and encoded.
+trait Tried: Copy {
+    fn show(&self, rt: &impl Print) -> io::Result<()>;
+
+    fn changed(self, at: usize, which: u8, value: u8) -> Self;
+
+    fn put(self, buf: &mut [u8]) -> Result<usize, Refusal>;
 }
 
-fn octet(n: u8) {
-    number(n as u64);
-}
-
-fn half(n: u16) {
-    number(n as u64);
-}
-
-fn size(n: usize) {
-    number(n as u64);
-}
-
-fn int8(z: i8) {
-    let b = numbers::int8_byte(z);
-    if z < 0 {
-        io::write_all(1, b" -");
-        io::print_decimal(1, 256 - b as u64);
-        return;
-    }
-    octet(b);
-}
-
-fn hex(b: u8) {
-    io::print_hex(1, b as u64, 2);
-}
-
-// The first n of these bytes.
-fn octets(s: &[u8], n: usize) {
-    let mut i: usize = 0;
-    while i < n {
-        hex(octets::byte_at(s, i));
-        i += 1;
+// Shows what was decoded, and encodes it with a field changed.
+fn run_fields<F: Tried>(
+    rt: &impl Print,
+    decoded: Result<F, Refusal>,
+    at: usize,
+    which: u8,
+    value: u8,
+    buf: &mut [u8],
+) -> io::Result<()> {
+    match decoded {
+        Ok(f) => {
+            print!(rt; " 0")?;
+            f.show(rt)?;
+            print_written(rt, &f.changed(at, which, value).put(buf))
+        }
+        Err(refusal) => print!(rt; " {}", refusal.number()),
     }
 }
 
-fn answer(w: Written) {
-    io::write_all(1, b" /");
-    octet(w.refusal);
-    size(w.length);
-}
+impl Tried for Uses {
+    fn show(&self, rt: &impl Print) -> io::Result<()> {
+        for u in &self.triples {
+            print!(rt; ", {} {} {}", u.system, u.number, u.used)?;
+        }
+        Ok(())
+    }
 
-fn show_use(u: Use) {
-    io::write_all(1, b",");
-    octet(u.system);
-    octet(u.number);
-    octet(u.used);
-}
+    fn changed(mut self, at: usize, which: u8, value: u8) -> Uses {
+        if let Some(u) = self.triples.get_mut(at) {
+            match which {
+                1 => u.system = value,
+                2 => u.number = value,
+                3 => u.used = value,
+                _ => {}
+            }
+        }
+        self
+    }
 
-fn show_47(f: Uses) {
-    let triples = f.triples;
-    let mut i: usize = 0;
-    while i < 56 {
-        let u = triples[i];
-        show_use(u);
-        i += 1;
+    fn put(self, buf: &mut [u8]) -> Result<usize, Refusal> {
+        self.encode(buf)
     }
 }
 
-fn changed_use(u: Use, which: u8, value: u8) -> Use {
-    let mut g = u;
+impl Tried for Visible {
+    fn show(&self, rt: &impl Print) -> io::Result<()> {
+        print!(rt; " {}", self.n)?;
+        for e in self.entries.iter().take(self.n) {
+            print!(rt; ", {} {} {}", e.system, e.number, e.carrier)?;
+            print!(rt; " {} {} {}", e.elevation, e.azimuth, e.signal)?;
+        }
+        Ok(())
+    }
+
+    // An azimuth is 200 more than the value, so that those around 359 can be had.
+    fn changed(mut self, at: usize, which: u8, value: u8) -> Visible {
+        if which == 1 {
+            self.n = usize::from(value);
+        } else if let Some(e) = self.entries.get_mut(at) {
+            match which {
+                2 => e.system = value,
+                3 => e.number = value,
+                4 => e.carrier = value.cast_signed(),
+                5 => e.elevation = value,
+                6 => e.azimuth = 200 + u16::from(value),
+                7 => e.signal = value,
+                _ => {}
+            }
+        }
+        self
+    }
+
+    fn put(self, buf: &mut [u8]) -> Result<usize, Refusal> {
+        self.encode(buf)
+    }
+}
+
+fn show_header(rt: &impl Print, h: &Header) -> io::Result<()> {
+    print!(rt; " {:016x} {} {:016x}", h.time, h.week, h.gps_shift)?;
+    print!(rt; " {:016x} {}", h.glonass_shift, h.correction)
+}
+
+fn show_channel(rt: &impl Print, c: &Channel) -> io::Result<()> {
+    print!(rt;
+        ", {} {} {} {} ",
+        c.signal_type, c.number, c.carrier, c.level
+    )?;
+    print_octets(rt, "", &c.rest, 26)
+}
+
+fn change_header(h: &mut Header, which: u8, value: u8) {
     match which {
-        1 => {
-            g.system = value;
-            g
-        }
-        2 => {
-            g.number = value;
-            g
-        }
-        3 => {
-            g.used = value;
-            g
-        }
-        _ => g,
-    }
-}
-
-fn changed_47(f: Uses, at: usize, which: u8, value: u8) -> Uses {
-    let mut triples = f.triples;
-    if at < 56 {
-        let u = triples[at];
-        let v = changed_use(u, which, value);
-        triples[at] = v;
-    }
-    Uses { triples: triples }
-}
-
-fn run_47(d: &[u8], at: usize, which: u8, value: u8, buf: &mut [u8]) {
-    let r = fields_47::decode_47(d);
-    octet(r.refusal);
-    if r.refusal != 0 {
-        return;
-    }
-    let f = r.fields;
-    show_47(f);
-    answer(fields_47::encode_47(changed_47(f, at, which, value), buf));
-}
-
-fn show_entry(e: Entry) {
-    io::write_all(1, b",");
-    octet(e.system);
-    octet(e.number);
-    int8(e.carrier);
-    octet(e.elevation);
-    half(e.azimuth);
-    octet(e.signal);
-}
-
-fn show_52(f: Visible) {
-    let entries = f.entries;
-    let n = f.n;
-    let mut i: usize = 0;
-    size(n);
-    while i < n {
-        if 75 <= i {
-            return;
-        }
-        let e = entries[i];
-        show_entry(e);
-        i += 1;
-    }
-}
-
-// An azimuth is 200 more than the value, so that those around 359 can be had.
-fn changed_entry(e: Entry, which: u8, value: u8) -> Entry {
-    let mut g = e;
-    match which {
-        2 => {
-            g.system = value;
-            g
-        }
-        3 => {
-            g.number = value;
-            g
-        }
-        4 => {
-            g.carrier = numbers::int8_of(value);
-            g
-        }
-        5 => {
-            g.elevation = value;
-            g
-        }
-        6 => {
-            g.azimuth = 200 + value as u16;
-            g
-        }
-        7 => {
-            g.signal = value;
-            g
-        }
-        _ => g,
-    }
-}
-
-fn changed_52(f: Visible, at: usize, which: u8, value: u8) -> Visible {
-    let mut entries = f.entries;
-    if which == 1 {
-        return Visible {
-            n: value as usize,
-            entries: entries,
-        };
-    }
-    if at < 75 {
-        let e = entries[at];
-        let g = changed_entry(e, which, value);
-        entries[at] = g;
-    }
-    Visible {
-        n: f.n,
-        entries: entries,
-    }
-}
-
-fn run_52(d: &[u8], at: usize, which: u8, value: u8, buf: &mut [u8]) {
-    let r = fields_52::decode_52(d);
-    octet(r.refusal);
-    if r.refusal != 0 {
-        return;
-    }
-    let f = r.fields;
-    show_52(f);
-    answer(fields_52::encode_52(changed_52(f, at, which, value), buf));
-}
-
-fn bits(n: u64) {
-    io::write_all(1, b" ");
-    io::print_hex(1, n, 16);
-}
-
-fn show_header(h: Header) {
-    bits(h.time);
-    half(h.week);
-    bits(h.gps_shift);
-    bits(h.glonass_shift);
-    int8(h.correction);
-}
-
-fn show_channel(c: Channel) {
-    let rest = c.rest;
-    io::write_all(1, b",");
-    octet(c.signal_type);
-    octet(c.number);
-    octet(c.carrier);
-    octet(c.level);
-    io::write_all(1, b" ");
-    octets(&rest, 26);
-}
-
-fn show_f5(f: Measurements) {
-    let channels = f.channels;
-    let n = f.n;
-    let mut i: usize = 0;
-    show_header(f.header);
-    size(n);
-    while i < n {
-        if 32 <= i {
-            return;
-        }
-        let c = channels[i];
-        show_channel(c);
-        i += 1;
-    }
-}
-
-fn changed_header(h: Header, which: u8, value: u8) -> Header {
-    let mut g = h;
-    match which {
-        8 => {
-            g.time = value as u64;
-            g
-        }
-        9 => {
-            g.week = value as u16;
-            g
-        }
-        10 => {
-            g.gps_shift = value as u64;
-            g
-        }
-        11 => {
-            g.glonass_shift = value as u64;
-            g
-        }
-        12 => {
-            g.correction = numbers::int8_of(value);
-            g
-        }
-        _ => g,
+        8 => h.time = u64::from(value),
+        9 => h.week = u16::from(value),
+        10 => h.gps_shift = u64::from(value),
+        11 => h.glonass_shift = u64::from(value),
+        12 => h.correction = value.cast_signed(),
+        _ => {}
     }
 }
 
 // Of the 26 bytes the first (6) or the last (7).
-fn changed_channel(c: Channel, which: u8, value: u8) -> Channel {
-    let mut g = c;
-    let mut rest = c.rest;
+fn change_channel(c: &mut Channel, which: u8, value: u8) {
     match which {
-        2 => {
-            g.signal_type = value;
-            g
-        }
-        3 => {
-            g.number = value;
-            g
-        }
-        4 => {
-            g.carrier = value;
-            g
-        }
-        5 => {
-            g.level = value;
-            g
-        }
-        6 => {
-            rest[0] = value;
-            g.rest = rest;
-            g
-        }
-        7 => {
-            rest[25] = value;
-            g.rest = rest;
-            g
-        }
-        _ => g,
+        2 => c.signal_type = value,
+        3 => c.number = value,
+        4 => c.carrier = value,
+        5 => c.level = value,
+        6 => c.rest[0] = value,
+        7 => c.rest[25] = value,
+        _ => {}
     }
 }
 
-fn changed_f5(f: Measurements, at: usize, which: u8, value: u8) -> Measurements {
-    let header = f.header;
-    let mut channels = f.channels;
-    let mut n = f.n;
-    if which == 1 {
-        n = value as usize;
-    }
-    if at < 32 {
-        let c = channels[at];
-        let g = changed_channel(c, which, value);
-        channels[at] = g;
-    }
-    let h = changed_header(header, which, value);
-    Measurements {
-        header: h,
-        n: n,
-        channels: channels,
-    }
-}
-
-fn run_f5(d: &[u8], at: usize, which: u8, value: u8, buf: &mut [u8]) {
-    let r = fields_f5::decode_f5(d);
-    octet(r.refusal);
-    if r.refusal != 0 {
-        return;
-    }
-    let f = r.fields;
-    show_f5(f);
-    answer(fields_f5::encode_f5(changed_f5(f, at, which, value), buf));
-}
-
-fn run_lookup(d: &[u8], system: u8, satellite: u8) {
-    match lookup::find_satellite(d, system, satellite) {
-        Found::At(i) => size(i),
-        Found::Nothing => {
-            io::write_all(1, b" none");
+impl Tried for Measurements {
+    fn show(&self, rt: &impl Print) -> io::Result<()> {
+        show_header(rt, &self.header)?;
+        print!(rt; " {}", self.n)?;
+        for c in self.channels.iter().take(self.n) {
+            show_channel(rt, c)?;
         }
-        Found::Refused(n) => {
-            io::write_all(1, b" refused");
-            octet(n);
+        Ok(())
+    }
+
+    fn changed(mut self, at: usize, which: u8, value: u8) -> Measurements {
+        if which == 1 {
+            self.n = usize::from(value);
         }
+        if let Some(c) = self.channels.get_mut(at) {
+            change_channel(c, which, value);
+        }
+        change_header(&mut self.header, which, value);
+        self
+    }
+
+    fn put(self, buf: &mut [u8]) -> Result<usize, Refusal> {
+        fields_f5::encode_f5(self, buf)
     }
 }
 
-fn show_in_use(r: InUse) {
-    octet(r.refusal);
-    bits(r.word);
-    number(r.count as u64);
+fn run_lookup(rt: &impl Print, d: &[u8], system: u8, number: u8) -> io::Result<()> {
+    match lookup::find_satellite(d, system, number) {
+        Ok(Some(i)) => print!(rt; " {i}"),
+        Ok(None) => print!(rt; " none"),
+        Err(refusal) => print!(rt; " refused {}", refusal.number()),
+    }
 }
 
-fn run_word(d: &[u8], buf: &mut [u8]) {
+fn show_in_use(rt: &impl Print, r: &Result<InUse, Refusal>) -> io::Result<()> {
+    match r {
+        Ok(r) => print!(rt; " 0 {:016x} {}", r.word, r.count),
+        Err(refusal) => print!(rt; " {} {:016x} 0", refusal.number(), 0),
+    }
+}
+
+fn run_word(rt: &impl Print, d: &[u8], buf: &mut [u8]) -> io::Result<()> {
     let r = in_use::word(d);
-    show_in_use(r);
-    if r.refusal != 0 {
-        return;
+    show_in_use(rt, &r)?;
+    match r {
+        Ok(r) => print_written(rt, &in_use::write(r.word, buf)),
+        Err(_) => Ok(()),
     }
-    answer(in_use::write(r.word, buf));
 }
 
 // Of the first 168 bytes, which are there where a word was written.
-fn show_word(s: &[u8]) {
-    if s.len() < 168 {
-        return;
-    }
-    show_in_use(in_use::word(&s[0..168]));
-}
-
-fn run_write(d: &[u8], buf: &mut [u8]) {
-    let w = in_use::write(numbers::u64_at(d, 0), buf);
-    answer(w);
-    if w.refusal == 0 {
-        show_word(buf);
+fn run_write(rt: &impl Print, d: &[u8], buf: &mut [u8]) -> io::Result<()> {
+    let written = in_use::write(numbers::u64_at(d, 0), buf);
+    print_written(rt, &written)?;
+    match buf.get(..168) {
+        Some(word) if written.is_ok() => show_in_use(rt, &in_use::word(word)),
+        _ => Ok(()),
     }
 }
 
-fn run(s: &[u8], buf: &mut [u8]) {
-    if s.len() < 6 {
-        return;
-    }
-    let d = &s[6..];
-    let at = octets::byte_at(s, 1) as usize;
-    match s[0] {
-        0x47 => run_47(d, at, s[2], s[3], buf),
-        0x52 => run_52(d, at, s[2], s[3], buf),
-        0xF5 => run_f5(d, at, s[2], s[3], buf),
-        1 => run_word(d, buf),
-        2 => run_write(d, buf),
-        _ => run_lookup(d, s[1], s[2]),
+fn run(rt: &impl Print, s: &[u8], buf: &mut [u8]) -> io::Result<()> {
+    let [kind, first, which, value, _, _, d @ ..] = s else {
+        return Ok(());
+    };
+    let at = usize::from(*first);
+    match *kind {
+        0x47 => run_fields(rt, encoding::decode::<Uses>(d), at, *which, *value, buf),
+        0x52 => run_fields(rt, encoding::decode::<Visible>(d), at, *which, *value, buf),
+        0xF5 => run_fields(rt, fields_f5::decode_f5(d), at, *which, *value, buf),
+        1 => run_word(rt, d, buf),
+        2 => run_write(rt, d, buf),
+        _ => run_lookup(rt, d, *first, *which),
     }
 }
 
-fn run_in(s: &[u8], room: usize, buf: &mut [u8]) {
-    if buf.len() < room {
-        return;
-    }
-    run(s, &mut buf[0..room]);
-    io::write_all(1, b" ");
-    octets(buf, room + 4);
-}
-
-fn call(s: &[u8]) {
+fn call(rt: &impl Print, s: &[u8]) -> io::Result<()> {
+    let room = usize::from(numbers::u16_at(s, 4));
     let mut buf = [0x5Au8; 1024];
-    octets(s, 3);
-    run_in(s, numbers::u16_at(s, 4) as usize, &mut buf);
-    io::write_all(1, b"\n");
+    print_octets(rt, "", s, 3)?;
+    if let Some(lent) = buf.get_mut(..room) {
+        run(rt, s, lent)?;
+        print!(rt; " ")?;
+        print_octets(rt, "", &buf, room + 4)?;
+    }
+    println!(rt)
 }
 
-fn line(s: &[u8]) {
-    if octets::byte_at(s, 0) == b'#' {
-        io::write_all(1, s);
-        io::write_all(1, b"\n");
-        return;
-    }
+fn main(rt: HostRuntime) -> io::Result<()> {
+    let mut input = [0u8; 65536];
     let mut bytes = [0u8; 1024];
-    let n = hexlines::parse(s, &mut bytes);
-    call(&bytes[0..n]);
-}
-
-fn main() {
-    let mut buf = io::large_buffer();
-    let n = io::read_full(0, &mut buf);
-    let s = &buf[..n];
-    let mut at: usize = 0;
-    while at < s.len() {
-        let end = hexlines::line_end(s, at);
-        line(&s[at..end]);
-        if s.len() <= end {
-            return;
-        }
-        at = end + 1;
-    }
+    answering::each_call(&rt, &mut input, &mut bytes, |s| call(&rt, s))
 }

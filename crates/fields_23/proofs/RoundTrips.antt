@@ -4,7 +4,7 @@ use mathlib.Core.Path.{◌≡◌, refl, sym, ap, ◌∙◌}
 use mathlib.Core.Bool.{cond}
 use mathlib.Core.List.{List, [], ◌∷◌}
 use mathlib.Core.Logic.{◌⊎◌, inl, inr}
-use mathlib.Core.Option.{Option, none, some}
+use Rattle.std.specs.Prelude.{Ok}
 use Prim.Native.Nat.{ℕ, zero, suc}
 use native.Mathlib.Omega.{arith}
 use borrow.Author.Tests.{eq-eqb}
@@ -22,7 +22,6 @@ use Rattle.rows.specs.Layout.{AllHeld, INT8S, joined}
 use Rattle.rows.proofs.RowLaws.{int, read_rows, widths, read_joined, joined_read}
 use Rattle.fields_23.specs.Fields.{fields_of, all_rows, rows_of, data_of, decoded_of}
 use Rattle.fields_23.specs.declared.Zone.{Zone}
-use Rattle.fields_23.specs.declared.Decoded.{Decoded}
 
 abbrev pub kept : Zone → Zone
 kept f = cond (eqb f.count 2) f (record { count = 0; hours = pos 0; minutes = pos 0 })
@@ -68,14 +67,8 @@ written_read d y h = go (two_lengths 0x23 0 2 _ d refl h)
         ap (λ (n : ℕ). joined (take n (all_rows (fields_of d)))) e
         ∙ joined_read (INT8S (fields_of d).hours ∷ INT8S (fields_of d).minutes ∷ []) 0 d (sym e) y
 
-abbrev held : Decoded → Option Zone
-held (Decoded.Fields f) = some f
-held (Decoded.Refused v) = none
+pub encode_decode : EncodeDecode 0x23 data_of decoded_of (λ f. Ok (kept f)) (λ f. AllHeld (rows_of f))
+encode_decode = laws.encode_fields 0x23 fields_of data_of (λ f. AllHeld (rows_of f)) kept read_written
 
-pub encode_decode : EncodeDecode 0x23 data_of decoded_of (λ f. Decoded.Fields (kept f)) (λ f. AllHeld (rows_of f))
-unfolding decoded_of
-encode_decode = laws.encode_fields 0x23 fields_of data_of Decoded.Fields Decoded.Refused (λ f. AllHeld (rows_of f)) kept read_written
-
-pub decode_encode : DecodeEncode 0x23 data_of decoded_of Decoded.Fields Bytes
-unfolding decoded_of
-decode_encode = laws.decode_fields 0x23 fields_of data_of Decoded.Fields Decoded.Refused held (λ g. refl) (λ n. refl) written_read
+pub decode_encode : DecodeEncode 0x23 data_of decoded_of Ok Bytes
+decode_encode = laws.decode_fields 0x23 fields_of data_of written_read

@@ -1,10 +1,9 @@
 -- 23h: a zone, or none (document 01).
-use Rattle.std.specs.Prelude.{cond, List, [], ◌∷◌, ℕ, eqb, length, take}
-use Rattle.kinds.specs.Kinds.{content}
+use Rattle.std.specs.Prelude.{List, [], ◌∷◌, ℕ, Result, length, take}
+use Rattle.encoding.specs.Encoding.{decoded_as}
 use Rattle.numbers.specs.Types.{int8s_at}
 use Rattle.rows.specs.Layout.{Row, INT8U, INT8S, joined}
 use Rattle.fields_23.specs.declared.Zone.{Zone}
-use Rattle.fields_23.specs.declared.Decoded.{Decoded}
 
 -- the fields, by their offsets; without bytes hours and minutes are 0
 unfoldable pub fields_of : List ℕ → Zone
@@ -31,5 +30,5 @@ unfoldable pub data_of : Zone → List ℕ
 data_of f = joined (rows_of f)
 
 -- what a decoding answers, by the data's refusal
-unfoldable pub decoded_of : List ℕ → Decoded
-decoded_of d = cond (eqb (content 0x23 d) 0) (Decoded.Fields (fields_of d)) (Decoded.Refused (content 0x23 d))
+abbrev pub decoded_of : List ℕ → Result Zone ℕ
+decoded_of = decoded_as 0x23 fields_of

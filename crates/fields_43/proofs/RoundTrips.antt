@@ -2,7 +2,7 @@
 use mathlib.Core.Path.{◌≡◌, refl, sym, ap, ◌∙◌}
 use mathlib.Core.Bool.{Bool, true, false, cond, not, ◌&&◌, and-eq-true_iff}
 use mathlib.Core.List.{List, [], ◌∷◌}
-use mathlib.Core.Option.{Option, none, some}
+use Rattle.std.specs.Prelude.{Ok}
 use Prim.Native.Nat.{ℕ, ◌+◌, ◌*◌, ◌/◌, ◌%◌, ◌≤◌, ◌<◌}
 use native.Mathlib.Omega.{arith}
 use borrow.Author.Tests.{eqb-true, eqb-false, le-leb, leb-true}
@@ -22,7 +22,6 @@ use Rattle.rows.specs.Layout.{INT8U, joined}
 use Rattle.rows.proofs.RowLaws.{nat, read_rows, widths, read_joined, joined_read}
 use Rattle.fields_43.specs.Fields.{result_of, bit_of, room, result_byte, fields_of, rows_of, data_of, decoded_of}
 use Rattle.fields_43.specs.declared.Outcome.{Outcome}
-use Rattle.fields_43.specs.declared.Decoded.{Decoded}
 
 parts : (a g p l : ℕ) → a ≤ 3 → g ≤ 1 → p ≤ 1 → l ≤ 15 → let x = a * 64 + g * 32 + p * 16 + l in
     (antenna x ≡ a) × (x / 32 % 2 ≡ g) × (x / 16 % 2 ≡ p) × (x % 16 ≡ l)
@@ -37,7 +36,7 @@ whole b h =
     let r : b / 64 ≡ b / 16 / 2 / 2 = omega arith in
     rw (q, r) (digits b (b / 16) (b / 16 / 2) (b / 16 / 2 / 2) (omega arith) (omega arith) (omega arith) (omega arith))
 
-bit_le : (t : Bool) → bit_of t ≤ 1
+pub bit_le : (t : Bool) → bit_of t ≤ 1
 bit_le true = omega arith
 bit_le false = omega arith
 
@@ -113,15 +112,9 @@ written_read d y h =
     ∷ INT8U (nul 2 (omega arith) k) ∷ INT8U (nul 3 (omega arith) k) ∷ []))
     ∙ joined_read (rows_of (fields_of d)) 0 d (sym n) y
 
-abbrev held : Decoded → Option Outcome
-held (Decoded.Fields f) = some f
-held (Decoded.Refused v) = none
-
 -- every value of the fields' types fits
-pub encode_decode : EncodeDecode 0x43 data_of decoded_of Decoded.Fields (λ f. Unit {0})
-unfolding decoded_of
-encode_decode = laws.encode_fields 0x43 fields_of data_of Decoded.Fields Decoded.Refused (λ f. Unit {0}) (λ f. f) read_written
+pub encode_decode : EncodeDecode 0x43 data_of decoded_of Ok (λ f. Unit {0})
+encode_decode = laws.encode_fields 0x43 fields_of data_of (λ f. Unit {0}) (λ f. f) read_written
 
-pub decode_encode : DecodeEncode 0x43 data_of decoded_of Decoded.Fields Bytes
-unfolding decoded_of
-decode_encode = laws.decode_fields 0x43 fields_of data_of Decoded.Fields Decoded.Refused held (λ g. refl) (λ n. refl) written_read
+pub decode_encode : DecodeEncode 0x43 data_of decoded_of Ok Bytes
+decode_encode = laws.decode_fields 0x43 fields_of data_of written_read

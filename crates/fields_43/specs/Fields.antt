@@ -1,11 +1,10 @@
 -- 43h: a result byte between a 2 and four zeros (document 01).
-use Rattle.std.specs.Prelude.{Bool, cond, ◌&&◌, List, [], ◌∷◌, ℕ, ◌+◌, ◌*◌, ◌/◌, ◌%◌, eqb, leb}
+use Rattle.std.specs.Prelude.{Bool, cond, ◌&&◌, List, [], ◌∷◌, ℕ, Result, ◌+◌, ◌*◌, ◌/◌, ◌%◌, eqb, leb}
 use Rattle.ranges.specs.Ranges.{antenna}
-use Rattle.kinds.specs.Kinds.{content}
+use Rattle.encoding.specs.Encoding.{decoded_as}
 use Rattle.numbers.specs.Types.{int8u_at}
 use Rattle.rows.specs.Layout.{Row, INT8U, joined}
 use Rattle.fields_43.specs.declared.Outcome.{Outcome}
-use Rattle.fields_43.specs.declared.Decoded.{Decoded}
 
 -- of a result byte: bits 7–6 (antenna), 5 (GLONASS), 4 (GPS) and 3–0
 abbrev pub result_of : ℕ → Outcome
@@ -47,5 +46,5 @@ unfoldable pub data_of : Outcome → List ℕ
 data_of f = joined (rows_of f)
 
 -- what a decoding answers, by the data's refusal
-unfoldable pub decoded_of : List ℕ → Decoded
-decoded_of d = cond (eqb (content 0x43 d) 0) (Decoded.Fields (fields_of d)) (Decoded.Refused (content 0x43 d))
+abbrev pub decoded_of : List ℕ → Result Outcome ℕ
+decoded_of = decoded_as 0x43 fields_of

@@ -1,28 +1,20 @@
 // 43h, a result byte, as fields and as data.
-// Decoding gives the fields of acceptable data, or the refusal. Encoding lays the fields out and delivers them, so that fields out of
-// range are refused as their data would be.
 #![tactic(auto)]
 
 ghost use Rattle.std.specs.Prelude.{◌≡◌};
-ghost use Rattle.encoding.specs.Encoding.{encoded_of, encoded_into};
 ghost use Rattle.rows.specs.Layout.{words};
-ghost use Rattle.fields_43.specs.Fields.{result_of, bit_of, result_byte, fields_of, rows_of, data_of, decoded_of};
+ghost use Rattle.fields_43.specs.Fields.{result_of, result_byte, fields_of, rows_of, data_of};
 
-use octets::Written;
+use encoding::Fields;
+use refusals::Refusal;
 
 // 43h: the result byte's parts.
-#[derive(Clone, Copy)]
+#[derive(Clone, Copy, Debug, PartialEq, Eq)]
 pub struct Outcome {
     pub antenna: u8,
     pub glonass: bool,
     pub gps: bool,
     pub low: u8,
-}
-
-#[derive(Clone, Copy)]
-pub enum Decoded {
-    Fields(Outcome),
-    Refused(u8),
 }
 
 // The parts of a result byte.
@@ -37,57 +29,39 @@ fn result_of(b: u8) -> Outcome
     }
 }
 
-// A bit as a number.
-fn bit(on: bool) -> u8
-    ensures { result ≡ bit_of on }
-{
-    if on {
-        return 1;
-    }
-    0
-}
-
 // The result byte of its parts. Where it has no room for them they are out of range, and so is an antenna of 2.
 fn result_byte(f: Outcome) -> u8
     ensures { result ≡ result_byte f }
 {
-    let glonass = bit(f.glonass);
-    let gps = bit(f.gps);
-    if (f.antenna <= 3) & (f.low <= 15) {
-        return (f.antenna << 6) | (glonass << 5) | (gps << 4) | f.low;
+    if f.antenna <= 3 && f.low <= 15 {
+        (f.antenna << 6) | (u8::from(f.glonass) << 5) | (u8::from(f.gps) << 4) | f.low
+    } else {
+        2 << 6
     }
-    2 << 6
 }
 
-fn read_43(body: &[u8]) -> Outcome
-    ensures { result ≡ fields_of body.now }
-{
-    result_of(numbers::int8u_at(body, 1))
-}
+const WIDTHS: [usize; 6] = [1, 1, 1, 1, 1, 1];
 
-// The fields of 43h data.
-pub fn decode_43(body: &[u8]) -> Decoded
-    ensures { result ≡ decoded_of body.now }
-{
-    let refusal = kinds::content(0x43, body);
-    if refusal != 0 {
-        return Decoded::Refused(refusal);
-    }
-    Decoded::Fields(read_43(body))
-}
-
-const WIDTHS_43: [usize; 6] = [1, 1, 1, 1, 1, 1];
-
-fn words_43(f: Outcome) -> [u64; 6]
+fn words_of(f: Outcome) -> [u64; 6]
     ensures { result ≡ words (rows_of f) }
 {
-    [2, result_byte(f) as u64, 0, 0, 0, 0]
+    [2, u64::from(result_byte(f)), 0, 0, 0, 0]
 }
 
-// The data of 43h from its fields.
-pub fn encode_43(f: Outcome, buf: &mut [u8]) -> Written
-    ensures { (result ≡ encoded_of 0x43 (data_of f) buf.old)
-        × (buf.new ≡ encoded_into 0x43 (data_of f) buf.old) }
-{
-    rows::encode(0x43, &words_43(f), &WIDTHS_43, buf)
+impl Fields for Outcome {
+    ghost ID = { 0x43 };
+
+    ghost fields_of = { fields_of };
+
+    ghost data_of = { data_of };
+
+    const ID: u8 = 0x43;
+
+    fn read(body: &[u8]) -> Outcome {
+        result_of(numbers::int8u_at(body, 1))
+    }
+
+    fn encode(self, buf: &mut [u8]) -> Result<usize, Refusal> {
+        rows::encode(Outcome::ID, &words_of(self), &WIDTHS, buf)
+    }
 }

@@ -1,7 +1,7 @@
 -- The round trips of 46h: the layout is a list of rows, and reading and writing rows are inverse.
 use mathlib.Core.Path.{◌≡◌, refl, sym}
 use mathlib.Core.List.{List, []}
-use mathlib.Core.Option.{Option, none, some}
+use Rattle.std.specs.Prelude.{Ok}
 use Prim.Native.Nat.{ℕ}
 use Rattle.kinds.specs.Kinds.{table, row_in, content}
 use Rattle.encoding.specs.RoundTrip.{EncodeDecode, DecodeEncode}
@@ -12,7 +12,6 @@ use Rattle.rows.specs.Layout.{AllHeld}
 use Rattle.rows.proofs.RowLaws.{nat, int, read_rows, widths, read_joined, joined_read}
 use Rattle.fields_46.specs.Fields.{fields_of, rows_of, data_of, decoded_of}
 use Rattle.fields_46.specs.declared.Time.{Time}
-use Rattle.fields_46.specs.declared.Decoded.{Decoded}
 
 read_written : (f : Time) → AllHeld (rows_of f) → content 0x46 (data_of f) ≡ 0 → fields_of (data_of f) ≡ f
 unfolding fields_of data_of read_rows
@@ -31,14 +30,8 @@ written_read : (d : List ℕ) → Bytes d → content 0x46 d ≡ 0 → data_of (
 unfolding fields_of data_of read_rows widths table row_in
 written_read d y h = joined_read (rows_of (fields_of d)) 0 d (sym (one_length_lem 0x46 10 _ d refl h)) y
 
-abbrev held : Decoded → Option Time
-held (Decoded.Fields f) = some f
-held (Decoded.Refused v) = none
+pub encode_decode : EncodeDecode 0x46 data_of decoded_of Ok (λ f. AllHeld (rows_of f))
+encode_decode = laws.encode_fields 0x46 fields_of data_of (λ f. AllHeld (rows_of f)) (λ f. f) read_written
 
-pub encode_decode : EncodeDecode 0x46 data_of decoded_of Decoded.Fields (λ f. AllHeld (rows_of f))
-unfolding decoded_of
-encode_decode = laws.encode_fields 0x46 fields_of data_of Decoded.Fields Decoded.Refused (λ f. AllHeld (rows_of f)) (λ f. f) read_written
-
-pub decode_encode : DecodeEncode 0x46 data_of decoded_of Decoded.Fields Bytes
-unfolding decoded_of
-decode_encode = laws.decode_fields 0x46 fields_of data_of Decoded.Fields Decoded.Refused held (λ g. refl) (λ n. refl) written_read
+pub decode_encode : DecodeEncode 0x46 data_of decoded_of Ok Bytes
+decode_encode = laws.decode_fields 0x46 fields_of data_of written_read

@@ -1,10 +1,9 @@
 -- 46h: time, date and zone (000, Table 37).
-use Rattle.std.specs.Prelude.{cond, List, [], ◌∷◌, ℕ, eqb}
-use Rattle.kinds.specs.Kinds.{content}
+use Rattle.std.specs.Prelude.{List, [], ◌∷◌, ℕ, Result}
+use Rattle.encoding.specs.Encoding.{decoded_as}
 use Rattle.numbers.specs.Types.{int8u_at, int8s_at, int16u_at, int32u_at}
 use Rattle.rows.specs.Layout.{Row, INT8U, INT8S, INT16U, INT32U, joined}
 use Rattle.fields_46.specs.declared.Time.{Time}
-use Rattle.fields_46.specs.declared.Decoded.{Decoded}
 
 -- the fields, by their offsets
 unfoldable pub fields_of : List ℕ → Time
@@ -33,5 +32,5 @@ unfoldable pub data_of : Time → List ℕ
 data_of f = joined (rows_of f)
 
 -- what a decoding answers, by the data's refusal
-unfoldable pub decoded_of : List ℕ → Decoded
-decoded_of d = cond (eqb (content 0x46 d) 0) (Decoded.Fields (fields_of d)) (Decoded.Refused (content 0x46 d))
+abbrev pub decoded_of : List ℕ → Result Time ℕ
+decoded_of = decoded_as 0x46 fields_of

@@ -1,11 +1,10 @@
 -- Document 01, 47h: 56 triples system, number, use.
-use Rattle.std.specs.Prelude.{cond, List, [], ◌∷◌, ℕ, eqb, replicate}
+use Rattle.std.specs.Prelude.{List, [], ◌∷◌, ℕ, Result}
 use Rattle.octets.specs.Bytes.{byte}
-use Rattle.kinds.specs.Kinds.{content}
+use Rattle.encoding.specs.Encoding.{decoded_as}
 use Rattle.encoding.specs.Entries.{Series, entries_of, entries_data}
 use Rattle.fields_47.specs.declared.Use.{Use}
 use Rattle.fields_47.specs.declared.Uses.{Uses}
-use Rattle.fields_47.specs.declared.Decoded.{Decoded}
 
 abbrev pub entry_of : List ℕ → Use
 entry_of e = record { system = byte e 0; number = byte e 1; used = byte e 2 }
@@ -25,9 +24,6 @@ fields_of d = record { triples = entries_of uses d 56 }
 abbrev pub data_of : Uses → List ℕ
 data_of f = entries_data uses f.triples 56
 
--- a refusal and blank fields, or 0 and the fields
-unfoldable pub decoded_of : List ℕ → Decoded
-decoded_of d = record {
-  refusal = content 0x47 d;
-  fields = cond (eqb (content 0x47 d) 0) (fields_of d) (record { triples = replicate 56 blank });
-}
+-- what a decoding answers, by the data's refusal
+abbrev pub decoded_of : List ℕ → Result Uses ℕ
+decoded_of = decoded_as 0x47 fields_of

@@ -2,7 +2,7 @@
 use mathlib.Core.Path.{◌≡◌, refl, sym, ap, ◌∙◌}
 use mathlib.Core.Bool.{Bool, true, false, cond, ◌&&◌, and-eq-true_iff}
 use mathlib.Core.List.{List, []}
-use mathlib.Core.Option.{Option, none, some, none-ne-some, some-injective}
+use Rattle.std.specs.Prelude.{Ok}
 use Prim.Native.Nat.{ℕ}
 use borrow.Author.Tests.{eqb-true}
 use lib.Dec.{eqb, leb}
@@ -14,14 +14,13 @@ use Rattle.octets.specs.Bytes.{byte, Bytes}
 use Rattle.kinds.specs.Kinds.{table, row_in, one_of, allows, chosen_49, length_ok, content}
 use Rattle.encoding.specs.RoundTrip.{EncodeDecode, DecodeEncode}
 use Rattle.encoding.proofs.AcceptedLaws.{accepted_parts}
-use Rattle.encoding.proofs.DecodedLaws.{answered}
 use Rattle.encoding.proofs.RoundTripLaws as laws
 use Rattle.rows.specs.Layout.{AllHeld, joined}
 use Rattle.rows.proofs.RowLaws.{nat, int, read_rows, widths, read_joined, joined_read}
-use Rattle.fields_49.specs.Fields.{fields_of_gps, rows_of_gps, data_of_gps, fields_of_glonass, rows_of_glonass, data_of_glonass, decoded_of}
+use Rattle.fields_49.specs.Fields.{fields_of_gps, rows_of_gps, data_of_gps, fields_of_glonass, rows_of_glonass, data_of_glonass, fields_of, data_of, decoded_of}
 use Rattle.fields_49.specs.declared.Gps.{Gps}
 use Rattle.fields_49.specs.declared.Glonass.{Glonass}
-use Rattle.fields_49.specs.declared.Decoded.{Decoded}
+use Rattle.fields_49.specs.declared.Ephemeris.{Ephemeris}
 
 read_written_gps : (f : Gps) → AllHeld (rows_of_gps f) → fields_of_gps (data_of_gps f) ≡ f
 unfolding fields_of_gps data_of_gps read_rows
@@ -118,57 +117,37 @@ glonass_length d h v =
     let e : byte d 0 ≡ 2 = sym (number_one d 0) ∙ v in
     eqb-true (length d) 93 (rw e at (chosen d h).0)
 
-abbrev held_gps : Decoded → Option Gps
-held_gps (Decoded.Gps f) = some f
-held_gps (Decoded.Glonass f) = none
-held_gps (Decoded.Refused v) = none
+-- both systems
+abbrev pub Held : Ephemeris → Type 0
+Held (Ephemeris.Gps f) = AllHeld (rows_of_gps f)
+Held (Ephemeris.Glonass f) = AllHeld (rows_of_glonass f)
 
-abbrev held_glonass : Decoded → Option Glonass
-held_glonass (Decoded.Gps f) = none
-held_glonass (Decoded.Glonass f) = some f
-held_glonass (Decoded.Refused v) = none
+read_written : (e : Ephemeris) → Held e → content 0x49 (data_of e) ≡ 0 → fields_of (data_of e) ≡ e
+read_written (Ephemeris.Gps f) h c = rw (system_written_gps f h) (ap Ephemeris.Gps (read_written_gps f h))
+read_written (Ephemeris.Glonass f) h c = rw (system_written_glonass f h) (ap Ephemeris.Glonass (read_written_glonass f h))
 
-pub encode_decode_gps : EncodeDecode 0x49 data_of_gps decoded_of Decoded.Gps (λ f. AllHeld (rows_of_gps f))
-unfolding decoded_of
-encode_decode_gps =
-    laws.encode_decode 0x49 data_of_gps decoded_of Decoded.Gps (λ f. AllHeld (rows_of_gps f))
-    (λ f h c. rw (c, system_written_gps f h) (ap Decoded.Gps (read_written_gps f h)))
-
-pub encode_decode_glonass : EncodeDecode 0x49 data_of_glonass decoded_of Decoded.Glonass (λ f. AllHeld (rows_of_glonass f))
-unfolding decoded_of
-encode_decode_glonass =
-    laws.encode_decode 0x49 data_of_glonass decoded_of Decoded.Glonass (λ f. AllHeld (rows_of_glonass f))
-    (λ f h c. rw (c, system_written_glonass f h) (ap Decoded.Glonass (read_written_glonass f h)))
-
--- an answer that holds fields of a system is one of data of that system
-decoded_gps : (d : List ℕ) (f : Gps) → Bytes d → decoded_of d ≡ Decoded.Gps f → (content 0x49 d ≡ 0) × (data_of_gps f ≡ d)
-unfolding decoded_of
-decoded_gps d f y e =
-    let q = answered held_gps Decoded.Gps Decoded.Refused _ (content 0x49 d) f (λ g. refl) (λ n. refl) e in
-    (q.0, go (eqb (int8u_at d 0) 1) refl q.0 q.1)
+written_read : (d : List ℕ) → Bytes d → content 0x49 d ≡ 0 → data_of (fields_of d) ≡ d
+written_read d y h = go (eqb (int8u_at d 0) 1) refl
   where
-    go : (t : Bool) → eqb (int8u_at d 0) 1 ≡ t → content 0x49 d ≡ 0
-        → held_gps (cond t (Decoded.Gps (fields_of_gps d)) (Decoded.Glonass (fields_of_glonass d))) ≡ some f → data_of_gps f ≡ d
-    go true p h e =
-        let v = eqb-true (int8u_at d 0) 1 p in
-        ap data_of_gps (sym (some-injective (fields_of_gps d) f e)) ∙ written_read_gps d y v (gps_length d h v)
-    go false p h e = absurd (none-ne-some f e)
+    go : (t : Bool) → eqb (int8u_at d 0) 1 ≡ t → data_of (cond t (Ephemeris.Gps (fields_of_gps d)) (Ephemeris.Glonass (fields_of_glonass d))) ≡ d
+    go true p = let v = eqb-true (int8u_at d 0) 1 p in written_read_gps d y v (gps_length d h v)
+    go false p = let v = glonass_first d h p in written_read_glonass d y v (glonass_length d h v)
 
-decoded_glonass : (d : List ℕ) (f : Glonass) → Bytes d → decoded_of d ≡ Decoded.Glonass f → (content 0x49 d ≡ 0) × (data_of_glonass f ≡ d)
-unfolding decoded_of
-decoded_glonass d f y e =
-    let q = answered held_glonass Decoded.Glonass Decoded.Refused _ (content 0x49 d) f (λ g. refl) (λ n. refl) e in
-    (q.0, go (eqb (int8u_at d 0) 1) refl q.0 q.1)
-  where
-    go : (t : Bool) → eqb (int8u_at d 0) 1 ≡ t → content 0x49 d ≡ 0
-        → held_glonass (cond t (Decoded.Gps (fields_of_gps d)) (Decoded.Glonass (fields_of_glonass d))) ≡ some f → data_of_glonass f ≡ d
-    go true p h e = absurd (none-ne-some f e)
-    go false p h e =
-        let v = glonass_first d h p in
-        ap data_of_glonass (sym (some-injective (fields_of_glonass d) f e)) ∙ written_read_glonass d y v (glonass_length d h v)
+pub encode_decode : EncodeDecode 0x49 data_of decoded_of Ok Held
+encode_decode = laws.encode_fields 0x49 fields_of data_of Held (λ e. e) read_written
 
-pub decode_encode_gps : DecodeEncode 0x49 data_of_gps decoded_of Decoded.Gps Bytes
-decode_encode_gps = laws.decode_encode 0x49 data_of_gps decoded_of Decoded.Gps Bytes decoded_gps
+pub decode_encode : DecodeEncode 0x49 data_of decoded_of Ok Bytes
+decode_encode = laws.decode_fields 0x49 fields_of data_of written_read
 
-pub decode_encode_glonass : DecodeEncode 0x49 data_of_glonass decoded_of Decoded.Glonass Bytes
-decode_encode_glonass = laws.decode_encode 0x49 data_of_glonass decoded_of Decoded.Glonass Bytes decoded_glonass
+-- the same of each system
+pub encode_decode_gps : EncodeDecode 0x49 data_of_gps decoded_of (λ f. Ok (Ephemeris.Gps f)) (λ f. AllHeld (rows_of_gps f))
+encode_decode_gps f = encode_decode (Ephemeris.Gps f)
+
+pub encode_decode_glonass : EncodeDecode 0x49 data_of_glonass decoded_of (λ f. Ok (Ephemeris.Glonass f)) (λ f. AllHeld (rows_of_glonass f))
+encode_decode_glonass f = encode_decode (Ephemeris.Glonass f)
+
+pub decode_encode_gps : DecodeEncode 0x49 data_of_gps decoded_of (λ f. Ok (Ephemeris.Gps f)) Bytes
+decode_encode_gps d b b' f = decode_encode d b b' (Ephemeris.Gps f)
+
+pub decode_encode_glonass : DecodeEncode 0x49 data_of_glonass decoded_of (λ f. Ok (Ephemeris.Glonass f)) Bytes
+decode_encode_glonass d b b' f = decode_encode d b b' (Ephemeris.Glonass f)

@@ -1,11 +1,11 @@
 -- 49h: ephemeris of a satellite (000, Table 39). The first byte, the system, is no field: it chooses the layout.
-use Rattle.std.specs.Prelude.{cond, List, [], ◌∷◌, ℕ, eqb}
-use Rattle.kinds.specs.Kinds.{content}
+use Rattle.std.specs.Prelude.{cond, List, [], ◌∷◌, ℕ, eqb, Result}
+use Rattle.encoding.specs.Encoding.{decoded_as}
 use Rattle.numbers.specs.Types.{int8u_at, int8s_at, int16u_at, fp32_at, fp64_at}
 use Rattle.rows.specs.Layout.{Row, INT8U, INT8S, INT16U, FP32, FP64, joined}
 use Rattle.fields_49.specs.declared.Gps.{Gps}
 use Rattle.fields_49.specs.declared.Glonass.{Glonass}
-use Rattle.fields_49.specs.declared.Decoded.{Decoded}
+use Rattle.fields_49.specs.declared.Ephemeris.{Ephemeris}
 
 -- GPS, first byte 1: the fields, by their offsets
 unfoldable pub fields_of_gps : List ℕ → Gps
@@ -115,8 +115,15 @@ rows_of_glonass f =
 unfoldable pub data_of_glonass : Glonass → List ℕ
 data_of_glonass f = joined (rows_of_glonass f)
 
--- what a decoding answers, by the data's refusal; acceptable data has the first byte 1 or 2
-unfoldable pub decoded_of : List ℕ → Decoded
-decoded_of d =
-    cond (eqb (content 0x49 d) 0) (cond (eqb (int8u_at d 0) 1) (Decoded.Gps (fields_of_gps d)) (Decoded.Glonass (fields_of_glonass d)))
-    (Decoded.Refused (content 0x49 d))
+-- the fields, by the first byte; acceptable data has there 1 or 2
+abbrev pub fields_of : List ℕ → Ephemeris
+fields_of d = cond (eqb (int8u_at d 0) 1) (Ephemeris.Gps (fields_of_gps d)) (Ephemeris.Glonass (fields_of_glonass d))
+
+-- the data
+abbrev pub data_of : Ephemeris → List ℕ
+data_of (Ephemeris.Gps f) = data_of_gps f
+data_of (Ephemeris.Glonass f) = data_of_glonass f
+
+-- what a decoding answers, by the data's refusal
+abbrev pub decoded_of : List ℕ → Result Ephemeris ℕ
+decoded_of = decoded_as 0x49 fields_of

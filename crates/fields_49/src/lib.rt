@@ -1,17 +1,16 @@
 // 49h, the ephemeris of a satellite, as fields and as data.
-// Decoding gives the fields of acceptable data, or the refusal. Encoding lays the fields out and delivers them, so that fields out of
-// range are refused as their data would be. FP fields are kept as their bits.
+// FP fields are kept as their bits.
 #![tactic(auto)]
 
 ghost use Rattle.std.specs.Prelude.{◌≡◌};
-ghost use Rattle.encoding.specs.Encoding.{encoded_of, encoded_into};
 ghost use Rattle.rows.specs.Layout.{words};
-ghost use Rattle.fields_49.specs.Fields.{fields_of_gps, rows_of_gps, data_of_gps, fields_of_glonass, rows_of_glonass, data_of_glonass, decoded_of};
+ghost use Rattle.fields_49.specs.Fields.{fields_of_gps, rows_of_gps, fields_of_glonass, rows_of_glonass, fields_of, data_of};
 
-use octets::Written;
+use encoding::Fields;
+use refusals::Refusal;
 
 // 49h: ephemeris of a GPS satellite, first byte 1 (000, Table 39).
-#[derive(Clone, Copy)]
+#[derive(Clone, Copy, Debug, PartialEq, Eq)]
 pub struct Gps {
     pub prn: u8, // the satellite
     pub crs: u32,
@@ -40,7 +39,7 @@ pub struct Gps {
 }
 
 // 49h: ephemeris of a GLONASS satellite, first byte 2 (000, Table 39).
-#[derive(Clone, Copy)]
+#[derive(Clone, Copy, Debug, PartialEq, Eq)]
 pub struct Glonass {
     pub number: u8, // n^A, the satellite; 0: unknown
     pub carrier: i8, // H_n^A
@@ -59,14 +58,14 @@ pub struct Glonass {
     pub age: u16, // E_n
 }
 
-#[derive(Clone, Copy)]
-pub enum Decoded {
+// The fields of 49h. The first byte, the system, is none of them.
+#[derive(Clone, Copy, Debug, PartialEq, Eq)]
+pub enum Ephemeris {
     Gps(Gps),
     Glonass(Glonass),
-    Refused(u8),
 }
 
-fn read_49_gps(body: &[u8]) -> Gps
+fn read_gps(body: &[u8]) -> Gps
     ensures { result ≡ fields_of_gps body.now }
 {
     Gps {
@@ -97,7 +96,7 @@ fn read_49_gps(body: &[u8]) -> Gps
     }
 }
 
-fn read_49_glonass(body: &[u8]) -> Glonass
+fn read_glonass(body: &[u8]) -> Glonass
     ensures { result ≡ fields_of_glonass body.now }
 {
     Glonass {
@@ -119,73 +118,51 @@ fn read_49_glonass(body: &[u8]) -> Glonass
     }
 }
 
-// The fields of 49h data.
-pub fn decode_49(body: &[u8]) -> Decoded
-    ensures { result ≡ decoded_of body.now }
-{
-    let refusal = kinds::content(0x49, body);
-    if refusal != 0 {
-        return Decoded::Refused(refusal);
-    }
-    if numbers::int8u_at(body, 0) == 1 {
-        return Decoded::Gps(read_49_gps(body));
-    }
-    Decoded::Glonass(read_49_glonass(body))
-}
-
-const WIDTHS_49_GPS: [usize; 25] = [
+const WIDTHS_GPS: [usize; 25] = [
     1, 1, 4, 4, 8, 4, 8, 4, 8, 8, 4, 8, 4, 8, 4, 8, 8, 8, 4, 8, 4, 4, 4, 2, 2,
 ];
 
-fn words_49_gps(f: Gps) -> [u64; 25]
+fn words_gps(f: Gps) -> [u64; 25]
     ensures { result ≡ words (rows_of_gps f) }
 {
     [
         1,
-        f.prn as u64,
-        f.crs as u64,
-        f.delta_n as u64,
+        u64::from(f.prn),
+        u64::from(f.crs),
+        u64::from(f.delta_n),
         f.m0,
-        f.cuc as u64,
+        u64::from(f.cuc),
         f.e,
-        f.cus as u64,
+        u64::from(f.cus),
         f.sqrt_a,
         f.toe,
-        f.cic as u64,
+        u64::from(f.cic),
         f.omega0,
-        f.cis as u64,
+        u64::from(f.cis),
         f.i0,
-        f.crc as u64,
+        u64::from(f.crc),
         f.omega,
         f.omega_dot,
         f.idot,
-        f.tgd as u64,
+        u64::from(f.tgd),
         f.toc,
-        f.af2 as u64,
-        f.af1 as u64,
-        f.af0 as u64,
-        f.ura as u64,
-        f.iode as u64,
+        u64::from(f.af2),
+        u64::from(f.af1),
+        u64::from(f.af0),
+        u64::from(f.ura),
+        u64::from(f.iode),
     ]
 }
 
-// The data of 49h from the fields of a GPS satellite.
-pub fn encode_49_gps(f: Gps, buf: &mut [u8]) -> Written
-    ensures { (result ≡ encoded_of 0x49 (data_of_gps f) buf.old)
-        × (buf.new ≡ encoded_into 0x49 (data_of_gps f) buf.old) }
-{
-    rows::encode(0x49, &words_49_gps(f), &WIDTHS_49_GPS, buf)
-}
+const WIDTHS_GLONASS: [usize; 16] = [1, 1, 1, 8, 8, 8, 8, 8, 8, 8, 8, 8, 8, 4, 4, 2];
 
-const WIDTHS_49_GLONASS: [usize; 16] = [1, 1, 1, 8, 8, 8, 8, 8, 8, 8, 8, 8, 8, 4, 4, 2];
-
-fn words_49_glonass(f: Glonass) -> [u64; 16]
+fn words_glonass(f: Glonass) -> [u64; 16]
     ensures { result ≡ words (rows_of_glonass f) }
 {
     [
         2,
-        f.number as u64,
-        numbers::int8_byte(f.carrier) as u64,
+        u64::from(f.number),
+        u64::from(numbers::int8_byte(f.carrier)),
         f.x,
         f.y,
         f.z,
@@ -196,16 +173,38 @@ fn words_49_glonass(f: Glonass) -> [u64; 16]
         f.ay,
         f.az,
         f.tb,
-        f.gamma as u64,
-        f.tau as u64,
-        f.age as u64,
+        u64::from(f.gamma),
+        u64::from(f.tau),
+        u64::from(f.age),
     ]
 }
 
-// The data of 49h from the fields of a GLONASS satellite.
-pub fn encode_49_glonass(f: Glonass, buf: &mut [u8]) -> Written
-    ensures { (result ≡ encoded_of 0x49 (data_of_glonass f) buf.old)
-        × (buf.new ≡ encoded_into 0x49 (data_of_glonass f) buf.old) }
-{
-    rows::encode(0x49, &words_49_glonass(f), &WIDTHS_49_GLONASS, buf)
+impl Fields for Ephemeris {
+    ghost ID = { 0x49 };
+
+    ghost fields_of = { fields_of };
+
+    ghost data_of = { data_of };
+
+    const ID: u8 = 0x49;
+
+    fn read(body: &[u8]) -> Ephemeris {
+        if numbers::int8u_at(body, 0) == 1 {
+            Ephemeris::Gps(read_gps(body))
+        } else {
+            Ephemeris::Glonass(read_glonass(body))
+        }
+    }
+
+    fn encode(self, buf: &mut [u8]) -> Result<usize, Refusal> {
+        match self {
+            Ephemeris::Gps(f) => rows::encode(Ephemeris::ID, &words_gps(f), &WIDTHS_GPS, buf),
+            Ephemeris::Glonass(f) => rows::encode(
+                Ephemeris::ID,
+                &words_glonass(f),
+                &WIDTHS_GLONASS,
+                buf,
+            ),
+        }
+    }
 }

@@ -1,10 +1,9 @@
 -- 4Ah: ionosphere parameters (000, Table 40).
-use Rattle.std.specs.Prelude.{cond, List, [], ◌∷◌, ℕ, eqb}
-use Rattle.kinds.specs.Kinds.{content}
+use Rattle.std.specs.Prelude.{List, [], ◌∷◌, ℕ, Result}
+use Rattle.encoding.specs.Encoding.{decoded_as}
 use Rattle.numbers.specs.Types.{int8u_at, fp32_at}
 use Rattle.rows.specs.Layout.{Row, INT8U, FP32, joined}
 use Rattle.fields_4a.specs.declared.Ionosphere.{Ionosphere}
-use Rattle.fields_4a.specs.declared.Decoded.{Decoded}
 
 -- the fields, by their offsets
 unfoldable pub fields_of : List ℕ → Ionosphere
@@ -39,5 +38,5 @@ unfoldable pub data_of : Ionosphere → List ℕ
 data_of f = joined (rows_of f)
 
 -- what a decoding answers, by the data's refusal
-unfoldable pub decoded_of : List ℕ → Decoded
-decoded_of d = cond (eqb (content 0x4A d) 0) (Decoded.Fields (fields_of d)) (Decoded.Refused (content 0x4A d))
+abbrev pub decoded_of : List ℕ → Result Ionosphere ℕ
+decoded_of = decoded_as 0x4A fields_of

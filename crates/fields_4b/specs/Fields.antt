@@ -1,11 +1,10 @@
 -- 4Bh: GPS, GLONASS and UTC time scales (002, Table 48).
 -- The sources differ in the first two rows: here A0 is at 0 and A1 at 8, while 000's Table 41 has A1 first.
-use Rattle.std.specs.Prelude.{cond, List, [], ◌∷◌, ℕ, eqb}
-use Rattle.kinds.specs.Kinds.{content}
+use Rattle.std.specs.Prelude.{List, [], ◌∷◌, ℕ, Result}
+use Rattle.encoding.specs.Encoding.{decoded_as}
 use Rattle.numbers.specs.Types.{int8u_at, int16u_at, int16s_at, int32u_at, fp64_at}
 use Rattle.rows.specs.Layout.{Row, INT8U, INT16U, INT16S, INT32U, FP64, joined}
 use Rattle.fields_4b.specs.declared.Scales.{Scales}
-use Rattle.fields_4b.specs.declared.Decoded.{Decoded}
 
 -- the fields, by their offsets
 unfoldable pub fields_of : List ℕ → Scales
@@ -46,5 +45,5 @@ unfoldable pub data_of : Scales → List ℕ
 data_of f = joined (rows_of f)
 
 -- what a decoding answers, by the data's refusal
-unfoldable pub decoded_of : List ℕ → Decoded
-decoded_of d = cond (eqb (content 0x4B d) 0) (Decoded.Fields (fields_of d)) (Decoded.Refused (content 0x4B d))
+abbrev pub decoded_of : List ℕ → Result Scales ℕ
+decoded_of = decoded_as 0x4B fields_of

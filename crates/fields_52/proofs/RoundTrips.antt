@@ -5,31 +5,31 @@ use mathlib.Core.List.{List, [], ◌∷◌}
 use Prim.Native.Nat.{ℕ, suc, ◌+◌, ◌*◌, ◌/◌, ◌%◌, ◌≤◌, ◌<◌}
 use native.Mathlib.Numerals.{add-one}
 use native.Mathlib.Omega.{arith}
-use borrow.Author.Tests.{eq-eqb, le-leb, leb-true}
+use borrow.Author.Tests.{leb-true}
 use lib.Dec.{leb}
 use lib.ListN.{length, take, get_or}
 use lib.Seq.{drop-cons, take-length}
 use lib.Signed.{mag}
+use Rattle.std.specs.Prelude.{Ok, min}
+use Rattle.std.proofs.Math.Nat.{min-eq_left}
 use Rattle.numbers.specs.Number.{number_of, number_at}
 use Rattle.numbers.proofs.NumberLaws.{number_in}
 use Rattle.numbers.proofs.SignedLaws.{signed_unsigned, unsigned_signed}
-use Rattle.octets.specs.Placing.{placed}
-use Rattle.octets.specs.Delivery.{accepted, written_of, filled_of}
-use Rattle.octets.specs.declared.Written.{Written}
 use Rattle.octets.specs.Bytes.{byte, Bytes}
 use Rattle.kinds.specs.Kinds.{content}
+use Rattle.encoding.specs.RoundTrip.{EncodeDecode, DecodeEncode}
 use Rattle.encoding.specs.Entries.{entry_slice, entries_of, kept_entries}
-use Rattle.encoding.proofs.CallLaws.{cond_zero, call_back, call_writes}
+use Rattle.encoding.proofs.CallLaws.{cond_zero}
 use Rattle.encoding.proofs.AcceptedLaws.{spelled}
+use Rattle.encoding.proofs.RoundTripLaws as laws
 use Rattle.encoding.proofs.EntryLaws.{entry_length, entry_bytes_lem, length_entries, read_laid, laid_read}
 use Rattle.fields_52.specs.declared.Entry.{Entry}
 use Rattle.fields_52.specs.declared.Visible.{Visible}
-use Rattle.fields_52.specs.declared.Decoded.{Decoded}
-use Rattle.fields_52.proofs.EntryCount.{count_52}
-use Rattle.fields_52.specs.Fields.{entry_of, entry_data, blank, visibles, fields_of, data_of, decoded_of, refusal_of}
+use Rattle.fields_52.proofs.EntryCount.{count_52, refusal_is}
+use Rattle.fields_52.specs.Fields.{entry_of, entry_data, blank, visibles, count_of, read_of, data_of, decoded_of, refusal_of}
 
 -- two bytes as a number, and back
-number_two : (d : List ℕ) (at : ℕ) → at + 2 ≤ length d → number_at d at 2 ≡ byte d at + 256 * byte d (at + 1)
+pub number_two : (d : List ℕ) (at : ℕ) → at + 2 ≤ length d → number_at d at 2 ≡ byte d at + 256 * byte d (at + 1)
 unfolding number_of
 number_two d at h =
     rw (number_in d at 2 h, drop-cons d at 0 (omega arith), drop-cons d (suc at) 0 (omega arith), add-one) (omega arith)
@@ -70,39 +70,37 @@ entry_written s l y =
     ∙ spelled 7 0 s l
 
 read_data : (f : Visible) → length f.entries ≡ 75 → f.n ≤ 75 → ((i : ℕ) → i < f.n → InTypes (get_or f.entries i blank))
-    → fields_of (data_of f) ≡ record { n = f.n; entries = kept_entries visibles f.entries f.n }
+    → read_of (data_of f) ≡ record { n = f.n; entries = kept_entries visibles f.entries f.n }
 read_data f l m t =
-    let n : length (data_of f) / 7 ≡ f.n = omega (arith, length_entries visibles f.entries f.n (λ _ _. refl)) in
+    let whole : length (data_of f) / 7 ≡ f.n = omega (arith, length_entries visibles f.entries f.n (λ _ _. refl)) in
+    let n : count_of (data_of f) ≡ f.n = ap (λ (k : ℕ). min k 75) whole ∙ min-eq_left m in
     let e = read_laid visibles InTypes entry_read [] refl f.entries f.n (λ _ _. refl) (omega arith) t in
     λ k. record { n = n k; entries = ((λ j. entries_of visibles (data_of f) (n j)) ∙ e) k }
 
-data_read : (d : List ℕ) → Bytes d → content 0x52 d ≡ 0 → data_of (fields_of d) ≡ d
+data_read : (d : List ℕ) → Bytes d → content 0x52 d ≡ 0 → data_of (read_of d) ≡ d
 data_read d y h =
     let c = count_52 d h in
-    laid_read visibles d (length d / 7) (omega arith)
+    let all : 7 * count_of d ≡ length d = omega (arith, c.0, c.2) in
+    laid_read visibles d (count_of d) (omega arith)
     (λ i k. entry_written (entry_slice visibles d i) (entry_length visibles d i k) (entry_bytes_lem visibles d i k y))
-    ∙ ap (λ (i : ℕ). take i d) c.0
+    ∙ ap (λ (i : ℕ). take i d) all
     ∙ take-length d
 
-pub encode_decode : (f : Visible) (b b' : List ℕ) (w : Written) (r : Decoded) → length f.entries ≡ 75
-    → ((i : ℕ) → i < f.n → InTypes (get_or f.entries i blank))
-    → w ≡ written_of (refusal_of f) (data_of f) b → b' ≡ filled_of (refusal_of f) (data_of f) b → w.refusal ≡ 0
-    → r ≡ decoded_of (take w.length b')
-    → r ≡ record { refusal = 0; fields = record { n = f.n; entries = kept_entries visibles f.entries f.n } }
-unfolding decoded_of refusal_of
-encode_decode f b b' w r l t answer left z read =
-    let d = data_of f in
-    let c = call_back (refusal_of f) d b w b' answer left z in
-    let j = cond_zero (leb f.n 75) (content 0x52 d) 11 (λ e. omega arith) c.0 in
-    read ∙ ap decoded_of c.1 ∙ rw (j.1, read_data f l (leb-true f.n 75 j.0) t)
+-- an array of 75 entries, of which those that count are of their types
+pub record Fits (f : Visible) : Type 0 where
+  pub most : length f.entries ≡ 75
+  pub types : (i : ℕ) → i < f.n → InTypes (get_or f.entries i blank)
 
-pub decode_encode : (d b b' : List ℕ) (r : Decoded) (w : Written) → Bytes d → r ≡ decoded_of d → r.refusal ≡ 0 → length d ≤ length b
-    → w ≡ written_of (refusal_of r.fields) (data_of r.fields) b → b' ≡ filled_of (refusal_of r.fields) (data_of r.fields) b
-    → (w ≡ accepted (length d)) × (b' ≡ placed b 0 d)
-unfolding decoded_of refusal_of
-decode_encode d b b' r w y read z room answer left =
-    let h : content 0x52 d ≡ 0 = sym (ap (λ (x : Decoded). x.refusal) read) ∙ z in
-    let f : r.fields ≡ fields_of d = ap (λ (x : Decoded). x.fields) read ∙ rw (eq-eqb _ _ h) in
-    let q : data_of (fields_of d) ≡ d = data_read d y h in
-    let v : refusal_of (fields_of d) ≡ 0 = rw (le-leb (length d / 7) 75 (count_52 d h).1, q) h in
-    call_writes (refusal_of r.fields) (data_of r.fields) b w b' answer left d (ap data_of f ∙ q) (ap refusal_of f ∙ v) room
+abbrev kept : Visible → Visible
+kept f = record { n = f.n; entries = kept_entries visibles f.entries f.n }
+
+-- acceptable data is of no more than 75 entries
+few : (f : Visible) → content 0x52 (data_of f) ≡ 0 → f.n ≤ 75
+unfolding refusal_of
+few f c = leb-true f.n 75 (cond_zero (leb f.n 75) (content 0x52 (data_of f)) 11 (λ e. omega arith) (sym (refusal_is f) ∙ c)).0
+
+pub encode_decode : EncodeDecode 0x52 data_of decoded_of (λ f. Ok (kept f)) Fits
+encode_decode = laws.encode_fields 0x52 read_of data_of Fits kept (λ f t c. read_data f t.most (few f c) t.types)
+
+pub decode_encode : DecodeEncode 0x52 data_of decoded_of Ok Bytes
+decode_encode = laws.decode_fields 0x52 read_of data_of data_read

@@ -1,13 +1,15 @@
 // 52h, the visible satellites, as fields and as data.
 #![tactic(auto)]
 
-ghost use Rattle.std.specs.Prelude.{◌≡◌, ◌*◌, ◌≤◌, length, take};
-ghost use Rattle.octets.specs.Delivery.{written_of, filled_of};
-ghost use Rattle.encoding.specs.Entries.{entries_of, entries_data};
-ghost use Rattle.fields_52.specs.Fields.{entry_of, entry_data, visibles, data_of, decoded_of, refusal_of};
+ghost use Rattle.std.specs.Prelude.{◌≡◌};
+ghost use Rattle.std.proofs.Common.{rules};
+ghost use Rattle.fields_52.specs.Fields.{entry_of, entry_data, blank, visibles, read_of, data_of};
+
+use encoding::Fields;
+use refusals::Refusal;
 
 // An entry of 52h: a satellite, and where it stands.
-#[derive(Clone, Copy)]
+#[derive(Clone, Copy, Debug, PartialEq, Eq)]
 pub struct Entry {
     pub system: u8,
     pub number: u8,
@@ -18,128 +20,85 @@ pub struct Entry {
 }
 
 // The fields of 52h: the first n entries count.
-#[derive(Clone, Copy)]
+#[derive(Clone, Copy, Debug, PartialEq, Eq)]
 pub struct Visible {
     pub n: usize,
     pub entries: [Entry; 75],
 }
 
-// What decoding 52h gives: a refusal with blank fields, or 0 with the fields.
-#[derive(Clone, Copy)]
-pub struct Decoded {
-    pub refusal: u8,
-    pub fields: Visible,
-}
+impl encoding::Entry<7> for Entry {
+    ghost series = { visibles };
 
-// An entry from its bytes.
-fn entry_of(e: &[u8]) -> Entry
-    ensures { result ≡ entry_of e.now }
-{
-    Entry {
-        system: octets::byte_at(e, 0),
-        number: octets::byte_at(e, 1),
-        carrier: numbers::int8_of(octets::byte_at(e, 2)),
-        elevation: octets::byte_at(e, 3),
-        azimuth: numbers::u16_at(e, 4),
-        signal: octets::byte_at(e, 6),
-    }
-}
+    ghost BLANK = { blank };
 
-// The first n entries; the others are blank.
-fn first_entries(body: &[u8], n: usize) -> [Entry; 75]
-    requires { (n ≤ 75) × (7 * n ≤ length body.now) }
-    ensures { result ≡ entries_of visibles body.now n }
-{
-    let mut entries = [Entry {
+    const BLANK: Entry = Entry {
         system: 0,
         number: 0,
         carrier: 0,
         elevation: 0,
         azimuth: 0,
         signal: 0,
-    }; 75];
-    let mut i: usize = 0;
-    while i < n {
-        let at = 7 * i;
-        let e = entry_of(&body[at..at + 7]);
-        entries[i] = e;
-        i += 1;
+    };
+
+    fn from_bytes(e: &[u8; 7]) -> Entry
+        ensures { result ≡ entry_of e.now }
+    {
+        let [system, number, carrier, elevation, low, high, signal] = *e;
+        Entry {
+            system,
+            number,
+            carrier: numbers::int8_of(carrier),
+            elevation,
+            azimuth: u16::from_le_bytes([low, high]),
+            signal,
+        }
     }
-    entries
+
+    fn to_bytes(self) -> [u8; 7]
+        ensures { result ≡ entry_data self }
+    {
+        let [low, high] = self.azimuth.to_le_bytes();
+        [
+            self.system,
+            self.number,
+            numbers::int8_byte(self.carrier),
+            self.elevation,
+            low,
+            high,
+            self.signal,
+        ]
+    }
+
+    ghost wide = { Prim.search rules };
+
+    ghost empty = { Prim.search rules };
 }
 
-// The fields of 52h data.
-pub fn decode_52(body: &[u8]) -> Decoded
-    ensures { result ≡ decoded_of body.now }
-{
-    let refusal = kinds::content(0x52, body);
-    if refusal != 0 {
-        let none = first_entries(body, 0);
-        return Decoded {
-            refusal: refusal,
-            fields: Visible {
-                n: 0,
-                entries: none,
-            },
-        };
-    }
-    let n = body.len() / 7;
-    let entries = first_entries(body, n);
-    Decoded {
-        refusal: 0,
-        fields: Visible {
-            n: n,
-            entries: entries,
-        },
-    }
-}
+impl Fields for Visible {
+    ghost ID = { 0x52 };
 
-// The bytes of an entry.
-fn entry_data(e: Entry) -> [u8; 7]
-    ensures { result ≡ entry_data e }
-{
-    let carrier = numbers::int8_byte(e.carrier);
-    [
-        e.system,
-        e.number,
-        carrier,
-        e.elevation,
-        (e.azimuth % 256) as u8,
-        (e.azimuth / 256 % 256) as u8,
-        e.signal,
-    ]
-}
+    ghost fields_of = { read_of };
 
-// The data of the first n entries, at the start of an array of the longest data.
-fn entries_data(entries: [Entry; 75], n: usize) -> [u8; 525]
-    requires { n ≤ 75 }
-    ensures { take (7 * n) result ≡ entries_data visibles entries n }
-{
-    let mut all = [0u8; 525];
-    let mut i: usize = 0;
-    while i < n {
-        let e = entries[i];
-        let d = entry_data(e);
-        octets::put(&d, &mut all, 7 * i);
-        i += 1;
-    }
-    all
-}
+    ghost data_of = { data_of };
 
-// The data of 52h from its fields. More than 75 entries are refused; those past n are ignored.
-pub fn encode_52(f: Visible, buf: &mut [u8]) -> octets::Written
-    ensures { (result ≡ written_of (refusal_of f) (data_of f) buf.old)
-        × (buf.new ≡ filled_of (refusal_of f) (data_of f) buf.old) }
-{
-    let n = f.n;
-    let entries = f.entries;
-    if 75 < n {
-        return octets::Written {
-            refusal: refusals::LENGTH,
-            length: 0,
-        };
+    const ID: u8 = 0x52;
+
+    fn read(body: &[u8]) -> Visible {
+        let n = (body.len() / 7).min(75);
+        Visible {
+            n,
+            entries: encoding::read_entries(body),
+        }
     }
-    let all = entries_data(entries, n);
-    let end = 7 * n;
-    encoding::deliver(0x52, &all[..end], buf)
+
+    // More than 75 entries are refused; those past n are ignored.
+    fn encode(self, buf: &mut [u8]) -> Result<usize, Refusal> {
+        let too_many = 75 < self.n;
+        if too_many {
+            return Err(Refusal::Length);
+        }
+        let mut all = [0u8; 525];
+        encoding::lay_out(&self.entries[..self.n], &mut all);
+        encoding::deliver(Visible::ID, &all[..7 * self.n], buf)
+    }
 }

@@ -4,6 +4,7 @@ use mathlib.Core.Path.{◌≡◌, refl, sym, ap, ◌∙◌}
 use mathlib.Core.Bool.{Bool, true, false, cond, ◌||◌}
 use mathlib.Core.List.{List}
 use mathlib.Core.Logic.{◌⊎◌, inl, inr}
+use Rattle.std.specs.Prelude.{Result, Ok, Err}
 use Prim.Native.Nat.{ℕ, ◌≤◌}
 use native.Mathlib.Omega.{arith}
 use borrow.Author.Tests.{eqb-true, eqb-false, le-leb, leb-true}
@@ -11,14 +12,12 @@ use lib.Dec.{eqb, leb}
 use lib.ListN.{length, take}
 use Rattle.octets.specs.Placing.{placed}
 use Rattle.octets.specs.Delivery.{accepted, written_of, filled_of}
-use Rattle.octets.specs.declared.Written.{Written}
+use Rattle.octets.specs.Delivery.{Written}
 use Rattle.ranges.specs.Ranges.{free, in_1f}
 use Rattle.kinds.specs.Kinds.{table, row_in, content}
 use Rattle.encoding.proofs.CallLaws.{cond_zero, call_back, call_writes}
 use Rattle.encoding.proofs.AcceptedLaws.{two_lengths, one_length_lem, spelled, either}
 use Rattle.fields_byte.specs.declared.OneByte.{OneByte}
-use Rattle.fields_byte.specs.declared.Decoded.{Decoded}
-use Rattle.fields_byte.specs.declared.Decoded.TheVariants.{Fields, Refused}
 use Rattle.fields_byte.specs.Fields.{one_byte_kind, family_refusal, answered, fields_of, data_of, decoded_of, refusal_of}
 
 -- without the byte there is no value
@@ -58,16 +57,16 @@ one_byte_length id d =
     (λ q. rw (eqb-true id 0x21 q) (one 0x21 (two_lengths 0x21 0 1 free d refl)))))))
 
 -- only a refusal of 0 is answered by fields, and by these
-answered_fields : (v : ℕ) (f g : OneByte) → answered v f ≡ Fields g → (v ≡ 0) × (f ≡ g)
+pub answered_fields : {A : Type 0} (v : ℕ) (f g : A) → answered v f ≡ Ok g → (v ≡ 0) × (f ≡ g)
 answered_fields v f g = go (eqb v 0) refl
   where
-    go : (t : Bool) → eqb v 0 ≡ t → cond t (Fields f) (Refused v) ≡ Fields g → (v ≡ 0) × (f ≡ g)
+    go : (t : Bool) → eqb v 0 ≡ t → cond t (Ok f) (Err v) ≡ Ok g → (v ≡ 0) × (f ≡ g)
     go true e q = (eqb-true v 0 e, cc)
     go false e q = let z : ◌≡◌ {A = ℕ} 0 1 = cc in absurd (omega arith)
 
-pub encode_decode : (id : ℕ) (f : OneByte) (b b' : List ℕ) (w : Written) (r : Decoded)
+pub encode_decode : (id : ℕ) (f : OneByte) (b b' : List ℕ) (w : Written) (r : Result OneByte ℕ)
     → w ≡ written_of (refusal_of id f) (data_of f) b → b' ≡ filled_of (refusal_of id f) (data_of f) b → w.refusal ≡ 0
-    → r ≡ decoded_of id (take w.length b') → r ≡ Fields (kept_one_byte f)
+    → r ≡ decoded_of id (take w.length b') → r ≡ Ok (kept_one_byte f)
 unfolding decoded_of refusal_of
 encode_decode id f b b' w r answer left z read =
     let c = call_back (refusal_of id f) (data_of f) b w b' answer left z in
@@ -75,8 +74,8 @@ encode_decode id f b b' w r answer left z read =
     let j = cond_zero (leb f.count 1) (content id (data_of f)) 11 (λ e. omega arith) k.1 in
     read ∙ ap (decoded_of id) c.1 ∙ rw (k.0, j.1, one_byte_kept f (leb-true f.count 1 j.0))
 
-pub decode_encode : (id : ℕ) (d b b' : List ℕ) (r : Decoded) (f : OneByte) (w : Written)
-    → r ≡ decoded_of id d → r ≡ Fields f → length d ≤ length b
+pub decode_encode : (id : ℕ) (d b b' : List ℕ) (r : Result OneByte ℕ) (f : OneByte) (w : Written)
+    → r ≡ decoded_of id d → r ≡ Ok f → length d ≤ length b
     → w ≡ written_of (refusal_of id f) (data_of f) b → b' ≡ filled_of (refusal_of id f) (data_of f) b
     → (w ≡ accepted (length d)) × (b' ≡ placed b 0 d)
 unfolding decoded_of refusal_of

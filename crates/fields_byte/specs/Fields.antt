@@ -1,12 +1,8 @@
 -- Document 01, the kinds of no byte, and those of one byte or none. An identifier outside the family is refused by 10.
-use Rattle.std.specs.Prelude.{Bool, cond, ◌||◌, List, [], ◌∷◌, ℕ, eqb, leb, length, take}
+use Rattle.std.specs.Prelude.{Bool, cond, ◌||◌, List, [], ◌∷◌, ℕ, eqb, leb, length, take, Result, Ok, Err}
 use Rattle.octets.specs.Bytes.{byte}
 use Rattle.kinds.specs.Kinds.{content}
 use Rattle.fields_byte.specs.declared.OneByte.{OneByte}
-use Rattle.fields_byte.specs.declared.Decoded.{Decoded}
-use Rattle.fields_byte.specs.declared.Decoded.TheVariants as one
-use Rattle.fields_byte.specs.declared.DecodedEmpty.{DecodedEmpty}
-use Rattle.fields_byte.specs.declared.DecodedEmpty.TheVariants as empty
 
 -- 1Bh, 1Eh, 26h, 54h: 0 bytes
 abbrev pub empty_kind : ℕ → Bool
@@ -21,11 +17,8 @@ abbrev pub family_refusal : Bool → ℕ → List ℕ → ℕ
 family_refusal inside id d = cond inside (content id d) 10
 
 -- what decoding answers, by the number v of questions 10 to 12
-abbrev pub answered_empty : ℕ → DecodedEmpty
-answered_empty v = cond (eqb v 0) empty.Empty (empty.Refused v)
-
-abbrev pub answered : ℕ → OneByte → Decoded
-answered v f = cond (eqb v 0) (one.Fields f) (one.Refused v)
+abbrev pub answered : {A : Type 0} → ℕ → A → Result A ℕ
+answered v a = cond (eqb v 0) (Ok a) (Err v)
 
 -- without the byte the value is 0
 abbrev pub fields_of : List ℕ → OneByte
@@ -35,10 +28,11 @@ fields_of d = record { count = length d; value = byte d 0 }
 abbrev pub data_of : OneByte → List ℕ
 data_of f = take f.count (f.value ∷ [])
 
-unfoldable pub decoded_empty_of : ℕ → List ℕ → DecodedEmpty
-decoded_empty_of id d = answered_empty (family_refusal (empty_kind id) id d)
+-- a kind without data has no fields
+unfoldable pub decoded_empty_of : ℕ → List ℕ → Result (Unit {0}) ℕ
+decoded_empty_of id d = answered (family_refusal (empty_kind id) id d) tt
 
-unfoldable pub decoded_of : ℕ → List ℕ → Decoded
+unfoldable pub decoded_of : ℕ → List ℕ → Result OneByte ℕ
 decoded_of id d = answered (family_refusal (one_byte_kind id) id d) (fields_of d)
 
 -- fields of a kind without data: none

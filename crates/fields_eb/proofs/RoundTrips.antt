@@ -1,7 +1,7 @@
 -- The round trips of EBh: the layout is a list of rows, and reading and writing rows are inverse.
 use mathlib.Core.Path.{◌≡◌, refl, sym}
 use mathlib.Core.List.{List, []}
-use mathlib.Core.Option.{Option, none, some}
+use Rattle.std.specs.Prelude.{Ok}
 use Prim.Native.Nat.{ℕ}
 use Rattle.kinds.specs.Kinds.{table, row_in, content}
 use Rattle.encoding.specs.RoundTrip.{EncodeDecode, DecodeEncode}
@@ -12,7 +12,6 @@ use Rattle.rows.specs.Layout.{AllHeld}
 use Rattle.rows.proofs.RowLaws.{nat, read_rows, widths, read_joined, joined_read}
 use Rattle.fields_eb.specs.Fields.{fields_of, rows_of, data_of, decoded_of}
 use Rattle.fields_eb.specs.declared.GlonassTime.{GlonassTime}
-use Rattle.fields_eb.specs.declared.Decoded.{Decoded}
 
 read_written : (f : GlonassTime) → AllHeld (rows_of f) → content 0xEB (data_of f) ≡ 0 → fields_of (data_of f) ≡ f
 unfolding fields_of data_of read_rows
@@ -34,14 +33,8 @@ written_read : (d : List ℕ) → Bytes d → content 0xEB d ≡ 0 → data_of (
 unfolding fields_of data_of read_rows widths table row_in
 written_read d y h = joined_read (rows_of (fields_of d)) 0 d (sym (one_length_lem 0xEB 26 _ d refl h)) y
 
-abbrev held : Decoded → Option GlonassTime
-held (Decoded.Fields f) = some f
-held (Decoded.Refused v) = none
+pub encode_decode : EncodeDecode 0xEB data_of decoded_of Ok (λ f. AllHeld (rows_of f))
+encode_decode = laws.encode_fields 0xEB fields_of data_of (λ f. AllHeld (rows_of f)) (λ f. f) read_written
 
-pub encode_decode : EncodeDecode 0xEB data_of decoded_of Decoded.Fields (λ f. AllHeld (rows_of f))
-unfolding decoded_of
-encode_decode = laws.encode_fields 0xEB fields_of data_of Decoded.Fields Decoded.Refused (λ f. AllHeld (rows_of f)) (λ f. f) read_written
-
-pub decode_encode : DecodeEncode 0xEB data_of decoded_of Decoded.Fields Bytes
-unfolding decoded_of
-decode_encode = laws.decode_fields 0xEB fields_of data_of Decoded.Fields Decoded.Refused held (λ g. refl) (λ n. refl) written_read
+pub decode_encode : DecodeEncode 0xEB data_of decoded_of Ok Bytes
+decode_encode = laws.decode_fields 0xEB fields_of data_of written_read

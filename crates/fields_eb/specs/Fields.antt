@@ -1,10 +1,9 @@
 -- EBh: GLONASS time scale parameters (000, Table 57).
-use Rattle.std.specs.Prelude.{cond, List, [], ◌∷◌, ℕ, eqb}
-use Rattle.kinds.specs.Kinds.{content}
+use Rattle.std.specs.Prelude.{List, [], ◌∷◌, ℕ, Result}
+use Rattle.encoding.specs.Encoding.{decoded_as}
 use Rattle.numbers.specs.Types.{int8u_at, int16u_at, fp32_at, fp64_at}
 use Rattle.rows.specs.Layout.{Row, INT8U, INT16U, FP32, FP64, joined}
 use Rattle.fields_eb.specs.declared.GlonassTime.{GlonassTime}
-use Rattle.fields_eb.specs.declared.Decoded.{Decoded}
 
 -- the fields, by their offsets
 unfoldable pub fields_of : List ℕ → GlonassTime
@@ -39,5 +38,5 @@ unfoldable pub data_of : GlonassTime → List ℕ
 data_of f = joined (rows_of f)
 
 -- what a decoding answers, by the data's refusal
-unfoldable pub decoded_of : List ℕ → Decoded
-decoded_of d = cond (eqb (content 0xEB d) 0) (Decoded.Fields (fields_of d)) (Decoded.Refused (content 0xEB d))
+abbrev pub decoded_of : List ℕ → Result GlonassTime ℕ
+decoded_of = decoded_as 0xEB fields_of

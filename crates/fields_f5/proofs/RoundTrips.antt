@@ -8,20 +8,21 @@ use borrow.Author.Tests.{eq-eqb, le-leb, leb-true}
 use lib.Dec.{leb}
 use lib.ListN.{length, take, drop, get_or, length-append, length-drop, take-append-drop}
 use lib.Seq.{take_all, take_at, length-take-le, get_or-take}
+use Rattle.std.specs.Prelude.{Result, Ok}
 use Rattle.octets.specs.Bytes.{Bytes}
 use Rattle.octets.specs.Placing.{placed}
 use Rattle.octets.specs.Delivery.{accepted, written_of, filled_of}
-use Rattle.octets.specs.declared.Written.{Written}
+use Rattle.octets.specs.Delivery.{Written}
 use Rattle.numbers.specs.Number.{bytes_of}
 use Rattle.kinds.specs.Kinds.{content}
-use Rattle.encoding.specs.Entries.{entry_slice, entries_of, entries_data, kept_entries}
+use Rattle.encoding.specs.Entries.{entry_slice, entries_of, entries_data, Long, kept_entries}
 use Rattle.encoding.proofs.CallLaws.{cond_zero, call_back, call_writes}
-use Rattle.encoding.proofs.EntryLaws.{Long, entry_length, length_entries, read_laid, laid_read}
+use Rattle.encoding.proofs.RoundTripLaws.{decoded_fields}
+use Rattle.encoding.proofs.EntryLaws.{entry_length, length_entries, read_laid, laid_read}
 use Rattle.rows.specs.Layout.{AllHeld, joined}
 use Rattle.rows.proofs.RowLaws.{nat, int, read_rows, widths, read_joined, joined_read}
 use Rattle.fields_f5.specs.declared.Header.{Header}
 use Rattle.fields_f5.specs.declared.Measurements.{Measurements}
-use Rattle.fields_f5.specs.declared.Decoded.{Decoded}
 use Rattle.fields_f5.specs.Fields.{header_of, rows_of, header_data, entry_of, entry_data, blank, channels, count_of, fields_of, data_of, decoded_of, refusal_of}
 use Rattle.fields_f5.proofs.ChannelCount.{count_f5, accepts_f5}
 
@@ -88,22 +89,20 @@ data_read d y h =
     ∙ take_all (30 * count_of d) (drop 27 d) (rw length-drop (omega arith)) in
     (λ k. top k ++ rest k) ∙ take-append-drop 27 d
 
-pub encode_decode : (f : Measurements) (b b' : List ℕ) (w : Written) (r : Decoded) → InTypes f
+pub encode_decode : (f : Measurements) (b b' : List ℕ) (w : Written) (r : Result Measurements ℕ) → InTypes f
     → w ≡ written_of (refusal_of f) (data_of f) b → b' ≡ filled_of (refusal_of f) (data_of f) b → w.refusal ≡ 0
     → r ≡ decoded_of (take w.length b')
-    → r ≡ record { refusal = 0; fields = record { header = f.header; n = f.n; channels = kept_entries channels f.channels f.n } }
-unfolding decoded_of
+    → r ≡ Ok (record { header = f.header; n = f.n; channels = kept_entries channels f.channels f.n })
 encode_decode f b b' w r t answer left z read =
     let c = call_back (refusal_of f) (data_of f) b w b' answer left z in
     let m : f.n ≤ 32 = leb-true f.n 32 (cond_zero (leb f.n 32) 0 11 (λ e. omega arith) c.0).0 in
-    read ∙ ap decoded_of c.1 ∙ rw (accepts_f5 (data_of f) f.n (length_data f t) m, read_data f t m)
+    read ∙ ap decoded_of c.1 ∙ rw (eq-eqb _ _ (accepts_f5 (data_of f) f.n (length_data f t) m)) (ap Ok (read_data f t m))
 
-pub decode_encode : (d b b' : List ℕ) (r : Decoded) (w : Written) → Bytes d → r ≡ decoded_of d → r.refusal ≡ 0 → length d ≤ length b
-    → w ≡ written_of (refusal_of r.fields) (data_of r.fields) b → b' ≡ filled_of (refusal_of r.fields) (data_of r.fields) b
+pub decode_encode : (d b b' : List ℕ) (f : Measurements) (w : Written) (r : Result Measurements ℕ) → Bytes d → r ≡ decoded_of d → r ≡ Ok f
+    → length d ≤ length b → w ≡ written_of (refusal_of f) (data_of f) b → b' ≡ filled_of (refusal_of f) (data_of f) b
     → (w ≡ accepted (length d)) × (b' ≡ placed b 0 d)
-unfolding decoded_of
-decode_encode d b b' r w y read z room answer left =
-    let h : content 0xF5 d ≡ 0 = sym (ap (λ (x : Decoded). x.refusal) read) ∙ z in
-    let f : r.fields ≡ fields_of d = ap (λ (x : Decoded). x.fields) read ∙ rw (eq-eqb _ _ h) in
-    let v : refusal_of (fields_of d) ≡ 0 = rw (le-leb (count_of d) 32 (count_f5 d h).1) in
-    call_writes (refusal_of r.fields) (data_of r.fields) b w b' answer left d (ap data_of f ∙ data_read d y h) (ap refusal_of f ∙ v) room
+decode_encode d b b' f w r y read holds room answer left =
+    let h = decoded_fields 0xF5 fields_of d f (sym read ∙ holds) in
+    let v : refusal_of (fields_of d) ≡ 0 = rw (le-leb (count_of d) 32 (count_f5 d h.0).1) in
+    let e : f ≡ fields_of d = sym h.1 in
+    call_writes (refusal_of f) (data_of f) b w b' answer left d (ap data_of e ∙ data_read d y h.0) (ap refusal_of e ∙ v) room

@@ -1,14 +1,13 @@
 -- Document 02, Point 2, F5h: a header of 27 bytes (000, Table 59), then n channels of 30, n up to 32. No value is refused.
-use Rattle.std.specs.Prelude.{cond, List, [], ◌∷◌, ◌++◌, ℕ, ◌-◌, ◌/◌, eqb, leb, pos, length, take, drop, replicate}
+use Rattle.std.specs.Prelude.{cond, List, [], ◌∷◌, ◌++◌, ℕ, ◌-◌, ◌/◌, leb, length, take, drop, replicate, Result}
 use Rattle.octets.specs.Bytes.{byte}
 use Rattle.numbers.specs.Types.{int8s_at, int16u_at, fp64_at}
-use Rattle.kinds.specs.Kinds.{content}
+use Rattle.encoding.specs.Encoding.{decoded_as}
 use Rattle.encoding.specs.Entries.{Series, entries_of, entries_data}
 use Rattle.rows.specs.Layout.{Row, INT8S, INT16U, FP64, joined}
 use Rattle.fields_f5.specs.declared.Header.{Header}
 use Rattle.fields_f5.specs.declared.Channel.{Channel}
 use Rattle.fields_f5.specs.declared.Measurements.{Measurements}
-use Rattle.fields_f5.specs.declared.Decoded.{Decoded}
 
 -- the header, by the table's offsets, and its rows in their order
 unfoldable pub header_of : List ℕ → Header
@@ -33,9 +32,6 @@ entry_of e = record { signal_type = byte e 0; number = byte e 1; carrier = byte 
 abbrev pub entry_data : Channel → List ℕ
 entry_data c = c.signal_type ∷ c.number ∷ c.carrier ∷ c.level ∷ c.rest
 
-abbrev pub blank_header : Header
-blank_header = record { time = 0; week = 0; gps_shift = 0; glonass_shift = 0; correction = pos 0 }
-
 abbrev pub blank : Channel
 blank = record { signal_type = 0; number = 0; carrier = 0; level = 0; rest = replicate 26 0 }
 
@@ -49,15 +45,12 @@ count_of d = (length d - 27) / 30
 abbrev pub fields_of : List ℕ → Measurements
 fields_of d = record { header = header_of (take 27 d); n = count_of d; channels = entries_of channels d (count_of d) }
 
-abbrev pub blank_fields : Measurements
-blank_fields = record { header = blank_header; n = 0; channels = replicate 32 blank }
-
 abbrev pub data_of : Measurements → List ℕ
 data_of f = header_data f.header ++ entries_data channels f.channels f.n
 
--- a refusal and blank fields, or 0 and the fields
-unfoldable pub decoded_of : List ℕ → Decoded
-decoded_of d = record { refusal = content 0xF5 d; fields = cond (eqb (content 0xF5 d) 0) (fields_of d) blank_fields }
+-- what a decoding answers, by the data's refusal
+abbrev pub decoded_of : List ℕ → Result Measurements ℕ
+decoded_of = decoded_as 0xF5 fields_of
 
 -- fields are refused by 11 where they have more than 32 channels, and by no other number
 abbrev pub refusal_of : Measurements → ℕ

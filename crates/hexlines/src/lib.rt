@@ -1,9 +1,16 @@
 // Lines of hexadecimal text, in upper case: what the test programs read.
 #![tactic(auto)]
 
-ghost use Rattle.std.specs.Prelude.{◌≡◌, ◌+◌, ◌*◌, ◌-◌, ◌≤◌, ◌<◌, length, drop};
+ghost use Rattle.std.specs.Prelude.{◌≡◌, ◌==◌, ◌+◌, ◌*◌, ◌-◌, ◌≤◌, ◌<◌, length, drop, position};
 ghost use Rattle.octets.specs.Placing.{placed};
 ghost use Rattle.hexlines.specs.Lines.{line_length, digit_of, parsed};
+
+// Where the first line end is, if there is one.
+fn newline(s: &[u8]) -> Option<usize>
+    ensures { result ≡ position (λ b. b == 10) s.now }
+{
+    s.iter().position(|b| *b == b'\n')
+}
 
 // The place of the next line end from a place on, or the text's end; past the end, the place itself. The second clause follows from
 // the first: it is what a caller that cuts the line out needs.
@@ -11,33 +18,25 @@ pub fn line_end(s: &[u8], from: usize) -> usize
     ensures value { result ≡ from + line_length (drop from s.now) }
     ensures within { (from ≤ result) × (result ≤ from + (length s.now - from)) }
 {
-    let mut at = from;
-    while at < s.len() {
-        if s[at] == b'\n' {
-            return at;
-        }
-        at += 1;
+    let Some(rest) = s.get(from..) else {
+        return from;
+    };
+    match newline(rest) {
+        Some(length) => from + length,
+        None => s.len(),
     }
-    at
 }
 
 // What a digit stands for; 0 for any other character.
+#[tactic(auto, unfolding(crate::specs::Lines::digit_of))]
 fn digit(b: u8) -> u8
     ensures { (result ≡ digit_of b) × (result < 16) }
 {
-    if b < b'0' {
-        return 0;
+    match b {
+        b'0'..=b'9' => b - b'0',
+        b'A'..=b'F' => b - b'A' + 10,
+        _ => 0,
     }
-    if b <= b'9' {
-        return b - b'0';
-    }
-    if b < b'A' {
-        return 0;
-    }
-    if b <= b'F' {
-        return b - b'A' + 10;
-    }
-    0
 }
 
 // The byte that two digits stand for.
@@ -54,19 +53,14 @@ pub fn parse(s: &[u8], out: &mut [u8]) -> usize
         × (out.new ≡ placed out.old 0 (parsed (length out.old) s.now)) }
     ensures within { result ≤ length out.new }
 {
-    let mut i: usize = 0;
     let mut n: usize = 0;
-    while i < s.len() {
+    for pair in s.chunks(2) {
         if out.len() <= n {
             return n;
         }
-        let low = octets::byte_at(s, i + 1);
-        out[n] = octet(s[i], low);
+        let low = octets::byte_at(pair, 1);
+        out[n] = octet(pair[0], low);
         n += 1;
-        if s.len() - i < 2 {
-            return n;
-        }
-        i += 2;
     }
     n
 }

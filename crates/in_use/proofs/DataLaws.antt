@@ -37,16 +37,15 @@ module _ (w s : ℕ) where
   unfolding system_data
   length_system m = length_laid one 3 m (λ i l. refl)
 
-  -- the satellite n, placed right after those before it
-  pub system_more : (b : List ℕ) (n at to : ℕ) → 1 ≤ n → to ≡ at + 3 * (n - 1) → at + 3 * n ≤ length b
-      → (all : List ℕ) → all ≡ placed b at (system_data w s (n - 1)) → (x : List ℕ) → x ≡ entry_data (triple_of w s n)
-      → placed all to x ≡ placed b at (system_data w s (n + 1 - 1))
+  -- the next satellite, placed right after those before it
+  pub system_more : (b : List ℕ) (number at to : ℕ) → 1 ≤ number → to ≡ at + 3 * (number - 1) → at + 3 * number ≤ length b
+      → (all : List ℕ) → all ≡ placed b at (system_data w s (number - 1)) → (x : List ℕ) → x ≡ entry_data (triple_of w s number)
+      → placed all to x ≡ placed b at (system_data w s number)
   unfolding system_data
-  system_more b n at to l p r all q x y =
-      let z : n ≡ n - 1 + 1 = omega arith in
-      let e : n - 1 + 1 ≡ n + 1 - 1 = omega arith in
-      laid_next one 3 b at (n - 1) to (λ j k. refl) p (omega arith) all q x (y ∙ ap (λ (j : ℕ). entry_data (triple_of w s j)) z)
-      ∙ ap (λ (j : ℕ). placed b at (laid_out one j)) e
+  system_more b number at to k p r all q x y =
+      let m : number ≡ number - 1 + 1 = omega arith in
+      laid_next one 3 b at (number - 1) to (λ j l. refl) p (omega arith) all q x (y ∙ ap (λ (n : ℕ). entry_data (triple_of w s n)) m)
+      ∙ ap (λ (n : ℕ). placed b at (laid_out one n)) (sym m)
 
 -- ---- both systems
 

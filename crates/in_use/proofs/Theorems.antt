@@ -12,14 +12,13 @@ use lib.Dec.{eqb, ltb}
 use lib.ListN.{length, take}
 use Rattle.octets.specs.Placing.{placed}
 use Rattle.octets.specs.Delivery.{accepted, written_of, filled_of}
-use Rattle.octets.specs.declared.Written.{Written}
+use Rattle.octets.specs.Delivery.{Written}
 use Rattle.octets.proofs.DeliveryLaws.{short, writes, refused_none}
 use Rattle.ranges.specs.Ranges.{in_47}
 use Rattle.kinds.specs.Kinds.{content}
 use Rattle.kinds.proofs.OnlyLaws.{judged_47}
 use Rattle.encoding.proofs.CallLaws.{call_back, call_writes}
-use Rattle.in_use.specs.declared.InUse.{InUse}
-use Rattle.in_use.specs.InUse.{word_of, gives, refuses, in_use_of, data_of, refusal_of}
+use Rattle.in_use.specs.InUse.{InUse, word_of, gives, refuses, in_use_of, data_of, refusal_of}
 use Rattle.in_use.specs.Meaning.{Shows, Contained, enabled_in, First, by_bit, by_room}
 use Rattle.in_use.proofs.WordLaws.{answer, word_lt}
 use Rattle.in_use.proofs.DataLaws.{length_data, data_good}

@@ -6,9 +6,9 @@ use Prim.Native.Nat.{ℕ, ◌+◌, ◌*◌, ◌^◌, ◌≤◌, ◌<◌}
 use native.Mathlib.Omega.{arith}
 use borrow.Author.Tests.{eqb-true, eqb-false, eq-eqb, leb-true, ltb-true, ltb-false}
 use lib.Dec.{eqb, leb, ltb}
-use lib.ListN.{length}
+use lib.ListN.{length, get_or}
 use Rattle.octets.specs.Bytes.{byte}
-use Rattle.satellites.specs.Satellites.{between, satellite, place_of}
+use Rattle.satellites.specs.Satellites.{between, satellite}
 use Rattle.satellites.specs.Sets.{bit, with_bit}
 use Rattle.satellites.proofs.SatelliteLaws.{Satellite, place_lt}
 use Rattle.satellites.proofs.BitLaws.{bit_zero, bit_with, bit_past, bits_same}
@@ -18,9 +18,10 @@ use Rattle.ranges.proofs.OnceLaws.{place_at, valid, valid_is, to_once, at_once}
 use Rattle.kinds.specs.Kinds.{content}
 use Rattle.kinds.proofs.OnlyLaws.{judged_47}
 use Rattle.encoding.specs.Entries.{entry_slice}
-use Rattle.encoding.proofs.EntryLaws.{entry_byte}
-use Rattle.fields_47.specs.Fields.{uses}
+use Rattle.encoding.proofs.EntryLaws.{entry_byte, get_d_firsts}
+use Rattle.fields_47.specs.Fields.{uses, blank, fields_of}
 use Rattle.fields_47.specs.declared.Use.{Use}
+use Rattle.fields_47.specs.declared.Uses.{Uses}
 use Rattle.in_use.specs.InUse.{triple_at, bit_of, enables, any, word_of}
 use Rattle.in_use.proofs.SetLaws.{flag, any_none, any_more, any_of, any_at, set_lt, bit_set_of}
 
@@ -50,6 +51,9 @@ module _ (d : List ℕ) where
       at : (j n : ℕ) → j < 3 → 3 * i + j ≡ n → byte (entry_slice uses d i) j ≡ byte d n
       at j n l e = entry_byte uses d i j l ∙ ap (byte d) (omega arith)
 
+  pub triple_read : (u : Uses) → u ≡ fields_of d → (i : ℕ) → i < 56 → get_or u.triples i blank ≡ triple_at d i
+  triple_read u e i l = ap (λ (v : Uses). get_or v.triples i blank) e ∙ get_d_firsts (triple_at d) blank 56 i _ l
+
   bit_of_is : (i : ℕ) → bit_of (triple_at d i) ≡ place_at d i
   bit_of_is i = ap bit_of (triple_is i)
 
@@ -58,8 +62,10 @@ module _ (d : List ℕ) (ok : content 0x47 d ≡ 0) where
   good : (i : ℕ) → i < 56 → valid d i ≡ true
   good = (to_once d (acceptable d ok).1).good
 
-  pub satellite_at : (i : ℕ) → i < 56 → satellite (byte d (3 * i)) (byte d (3 * i + 1)) ≡ true
-  satellite_at i l = ((and-eq-true_iff (satellite (byte d (3 * i)) (byte d (3 * i + 1))) (between 1 2 (byte d (3 * i + 2)))).0 (good i l)).0
+  pub satellite_at : (i : ℕ) → i < 56 → satellite (triple_at d i).system (triple_at d i).number ≡ true
+  satellite_at i l =
+      let ok = ((and-eq-true_iff (satellite (byte d (3 * i)) (byte d (3 * i + 1))) (between 1 2 (byte d (3 * i + 2)))).0 (good i l)).0 in
+      ap (λ (t : Use). satellite t.system t.number) (triple_is d i) ∙ ok
 
   pub satellite_there : (i : ℕ) → i < 56 → Satellite (triple_at d i).system (triple_at d i).number
   satellite_there i l = subst (λ (t : Use). Satellite t.system t.number) (sym (triple_is d i)) (valid_is d i (good i l))
@@ -159,23 +165,19 @@ module _ (d : List ℕ) where
   pub marks_none : Marks 0 0
   marks_none p = bit_zero p ∙ sym (ap flag (any_none (λ j. enables (triple_at d j) p)))
 
-  pub marks_more : (w i s n u : ℕ) → s ≡ byte d (3 * i) → n ≡ byte d (3 * i + 1) → u ≡ byte d (3 * i + 2) → Marks w i
-      → (v : ℕ) → v ≡ cond (eqb u 1) (with_bit w (place_of s n)) w → Marks v (i + 1)
-  marks_more w i s n u es en eu h v ev p =
+  pub marks_more : (w i : ℕ) → Marks w i → (t : Use) → t ≡ triple_at d i
+      → (v : ℕ) → v ≡ cond (eqb t.used 1) (with_bit w (bit_of t)) w → Marks v (i + 1)
+  marks_more w i h t et v ev p =
       ap (λ (x : ℕ). bit x p) ev
-      ∙ go (eqb u 1)
-      ∙ ap (λ (t : Bool). flag (before || t)) same
+      ∙ go (eqb t.used 1)
+      ∙ ap (λ (u : Use). flag (before || enables u p)) et
       ∙ sym (ap flag (any_more i (λ j. enables (triple_at d j) p)))
     where
       before : Bool
       before = any i (λ j. enables (triple_at d j) p)
 
-      same : eqb u 1 && eqb (place_of s n) p ≡ enables (triple_at d i) p
-      same =
-          (λ k. eqb (eu k) 1 && eqb (place_of (es k) (en k)) p) ∙ ap (λ (t : Use). enables t p) (sym (triple_is d i))
-
-      go : (t : Bool) → bit (cond t (with_bit w (place_of s n)) w) p ≡ flag (before || (t && eqb (place_of s n) p))
-      go true = bit_with w (place_of s n) p ∙ ap (cond (eqb (place_of s n) p) 1) (h p) ∙ either before (eqb (place_of s n) p)
+      go : (b : Bool) → bit (cond b (with_bit w (bit_of t)) w) p ≡ flag (before || (b && eqb (bit_of t) p))
+      go true = bit_with w (bit_of t) p ∙ ap (cond (eqb (bit_of t) p) 1) (h p) ∙ either before (eqb (bit_of t) p)
       go false = h p ∙ neither before
 
   pub marks_all : content 0x47 d ≡ 0 → (w : ℕ) → w < 2 ^ 64 → Marks w 56 → w ≡ word_of d

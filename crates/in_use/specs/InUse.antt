@@ -1,13 +1,15 @@
 -- Document 02, Point 8: which satellites are in use, as a word of 64 bits, and the 47h data of a word.
-use Rattle.std.specs.Prelude.{Bool, false, cond, ◌&&◌, ◌||◌, List, ◌++◌, ℕ, zero, suc, ◌+◌, ◌/◌, ◌^◌, eqb}
+use Rattle.std.specs.Prelude.{Bool, false, cond, ◌&&◌, ◌||◌, List, ◌++◌, ℕ, zero, suc, ◌+◌, ◌/◌, ◌^◌, eqb, Result, Ok, Err}
 use Rattle.std.specs.Int.Count.{ones}
+use Rattle.refusals.specs.declared.Refusal.{Refusal}
+use Rattle.refusals.specs.Numbers.{number}
 use Rattle.satellites.specs.Satellites.{place_of}
 use Rattle.satellites.specs.Sets.{bit, with_bit}
 use Rattle.kinds.specs.Kinds.{content}
 use Rattle.encoding.specs.Entries.{entry_slice, laid_out}
 use Rattle.fields_47.specs.Fields.{entry_of, entry_data, uses}
 use Rattle.fields_47.specs.declared.Use.{Use}
-use Rattle.in_use.specs.declared.InUse.{InUse}
+use Rattle.in_use.specs.declared.InUse as code
 
 -- ---- the word of data
 
@@ -37,12 +39,22 @@ set_of (suc n) f = cond (f n) (with_bit (set_of n f) n) (set_of n f)
 unfoldable pub word_of : List ℕ → ℕ
 word_of d = set_of 56 (λ p. any 56 (λ i. enables (triple_at d i) p))
 
--- the word, and how many of its bits are set; refused, all are 0 but the refusal
+-- the answer by the papers' numbers: a refusal's and zeros, or 0, the word and how many of its bits are set
+pub record InUse : Type 0 where
+  pub refusal : ℕ
+  pub word : ℕ
+  pub count : ℕ
+
 abbrev pub gives : ℕ → InUse
 gives w = record { refusal = 0; word = w; count = ones w }
 
 abbrev pub refuses : ℕ → InUse
 refuses v = record { refusal = v; word = 0; count = 0 }
+
+-- the answer that the call returned
+abbrev pub in_use : Result code.InUse Refusal → InUse
+in_use (Ok u) = record { refusal = 0; word = u.word; count = u.count }
+in_use (Err r) = refuses (number r)
 
 unfoldable pub in_use_of : List ℕ → InUse
 in_use_of d = cond (eqb (content 0x47 d) 0) (gives (word_of d)) (refuses (content 0x47 d))

@@ -14,9 +14,8 @@ use Rattle.kinds.specs.Kinds.{content}
 use Rattle.kinds.proofs.ContentLaws.{content_length}
 use Rattle.batch.specs.Entries.{Entry, Each, AcceptableEntry}
 use Rattle.batch.specs.Entries.Each.{also}
-use Rattle.journal.specs.declared.Entry.{Entry as Answer}
 use Rattle.journal.specs.Records.{stored, restored, record_of, records_of}
-use Rattle.journal.specs.Calls.{nothing, given, judged, marked, length_in, data_in, read_of}
+use Rattle.journal.specs.Calls.{Entry as Answer, nothing, given, judged, marked, length_in, data_in, read_of}
 use Rattle.journal.specs.Journal.{Reads, answers_to, taken_by, length_of}
 use Rattle.journal.specs.Journal.Reads.{stop, read}
 use Rattle.journal.proofs.RecordLaws.{length_stored, restored_stored, length_record}

@@ -1,19 +1,36 @@
 -- Laws of reading a record: the answer by the tests that the code makes.
 use mathlib.Core.Bool.{Bool, true, false, cond, not, ◌&&◌}
-use mathlib.Core.List.{List}
+use mathlib.Core.List.{List, [], ◌∷◌}
 use mathlib.Core.Path.{◌≡◌, refl, sym, ap, ◌∙◌}
 use Prim.Native.Nat.{ℕ, ◌+◌, ◌≤◌, ◌<◌}
 use native.Mathlib.Omega.{arith}
 use borrow.Author.Tests.{eq-eqb, ne_eqb, eqb-true, eqb-false, lt-ltb, le-ltb, ltb-false}
 use lib.Dec.{eqb, ltb}
 use lib.ListN.{length}
+use Rattle.std.specs.List.{starts_with}
 use Rattle.octets.specs.Bytes.{byte}
 use Rattle.kinds.specs.Kinds.{content}
 use Rattle.kinds.proofs.ContentLaws.{content_length, content_long}
-use Rattle.journal.specs.declared.Entry.{Entry}
 use Rattle.journal.specs.Records.{restored}
-use Rattle.journal.specs.Calls.{nothing, given, judged, marked, length_in, data_in, read_of}
+use Rattle.journal.specs.Calls.{Entry, nothing, given, judged, marked, length_in, data_in, read_of}
 use Rattle.journal.proofs.RecordLaws.{length_restored}
+
+-- bytes are marked that start with the mark
+both_ways : (a b : ℕ) → eqb a b ≡ eqb b a
+both_ways a b = go (eqb a b) refl
+  where
+    go : (t : Bool) → eqb a b ≡ t → t ≡ eqb b a
+    go true e = sym (eq-eqb b a (sym (eqb-true a b e)))
+    go false e = sym (ne_eqb b a (λ q. eqb-false a b e (sym q)))
+
+pub marks : (s : List ℕ) → starts_with eqb s (0x4E ∷ 0x56 ∷ []) ≡ marked s
+marks [] = refl
+marks (x ∷ []) = λ k. both_ways 0x4E x k && false
+marks (x ∷ y ∷ s) = (λ k. both_ways 0x4E x k && (both_ways 0x56 y k && true)) ∙ ap (λ (t : Bool). eqb x 0x4E && t) (last (eqb y 0x56))
+  where
+    last : (t : Bool) → t && true ≡ t
+    last true = refl
+    last false = refl
 
 module _ (v id : ℕ) (d : List ℕ) where
   pub judged_given : v ≡ 0 → judged v id d ≡ given id d

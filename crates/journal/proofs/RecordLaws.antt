@@ -15,8 +15,8 @@ use Rattle.ranges.specs.Ranges.{free, in_47, in_52}
 use Rattle.kinds.specs.Kinds.{table, row_in, entries, content}
 use Rattle.kinds.proofs.OnlyLaws.{judged_47}
 use Rattle.encoding.proofs.EntryLaws.{entry_count}
-use Rattle.columns.specs.Columns.{crossed, by_columns}
-use Rattle.columns.proofs.ColumnLaws.{whole_of, whole_none, columns_whole, columns_not, length_columns, length_rows}
+use Rattle.columns.specs.Columns.{crossed, by_columns, by_rows}
+use Rattle.columns.proofs.ColumnLaws.{whole_of, whole_none, columns_whole, columns_not, rows_not, length_columns, length_rows}
 use Rattle.columns.proofs.Theorems.{rows_columns, columns_rows}
 use Rattle.batch.specs.Entries.{Entry}
 use Rattle.journal.specs.declared.Layout.{Layout}
@@ -74,6 +74,14 @@ layout_f5 = refl
 layout_other : (id : ℕ) → (id ≡ 0x47 → ⊥) → (id ≡ 0x52 → ⊥) → (id ≡ 0xF5 → ⊥) → layout_of id ≡ record { header = 0; width = 0 }
 unfolding layout_of
 layout_other id a b c = rw (ne_eqb id 0x47 a, ne_eqb id 0x52 b, ne_eqb id 0xF5 c)
+
+-- of a kind without repeated entries
+module _ (id : ℕ) (d : List ℕ) (e : record { header = 0; width = 0 } ≡ layout_of id) where
+  pub stored_plain : stored id d ≡ d
+  stored_plain = ap (λ (l : Layout). by_columns l.header l.width d) (sym e) ∙ columns_not 0 0 d (whole_none 0 (length d))
+
+  pub restored_plain : restored id d ≡ d
+  restored_plain = ap (λ (l : Layout). by_rows l.header l.width d) (sym e) ∙ rows_not 0 0 d (whole_none 0 (length d))
 
 row_52 : row_in table 0x52 ≡ some (entries 0x52 0 7 75 in_52)
 unfolding row_in table

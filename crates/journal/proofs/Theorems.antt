@@ -10,7 +10,7 @@ use lib.ListN.{length, take, drop, length-take, length-drop, take-append-drop}
 use lib.Seq.{drop-cons, drop-drop, length-take-le}
 use Rattle.octets.specs.Bytes.{byte, Bytes}
 use Rattle.octets.specs.Delivery.{accepted}
-use Rattle.octets.specs.declared.Written.{Written}
+use Rattle.octets.specs.Delivery.{Written}
 use Rattle.octets.proofs.DeliveryLaws.{writes, written_judged, written_back}
 use Rattle.numbers.specs.Number.{number_of, bytes_of}
 use Rattle.numbers.proofs.NumberLaws.{number_in, part_bytes, bytes_number}
@@ -18,9 +18,8 @@ use Rattle.batch.specs.Entries.{Entry, list_bytes, Contents, limit, list_of, Eac
 use Rattle.batch.specs.Entries.Contents.{entries, refused}
 use Rattle.batch.proofs.ContentsLaws.{list_back}
 use Rattle.batch.proofs.LayoutLaws.{Holds, list_holds}
-use Rattle.journal.specs.declared.Entry.{Entry as Answer}
 use Rattle.journal.specs.Records.{stored, record_of, records_of}
-use Rattle.journal.specs.Calls.{refusal_in, records_in, journal_written, journal_filled, nothing, marked, length_in, data_in, read_of}
+use Rattle.journal.specs.Calls.{Entry as Answer, refusal_in, records_in, journal_written, journal_filled, nothing, marked, length_in, data_in, read_of}
 use Rattle.journal.specs.Journal.{Reads, answers_to, taken_by, length_of, Kept, Found}
 use Rattle.journal.proofs.RecordLaws.{length_restored, stored_restored, length_records}
 use Rattle.journal.proofs.ReadingLaws.{Outcome, outcome}

@@ -1,15 +1,17 @@
 -- Document 02, Point 11: what writing a list and reading a record answer.
-use Rattle.std.specs.Prelude.{Bool, cond, not, ◌&&◌, List, [], ℕ, ◌+◌, eqb, ltb, length, take, drop, replicate}
+use Rattle.std.specs.Prelude.{Bool, true, false, cond, not, ◌&&◌, List, [], ℕ, ◌+◌, eqb, ltb, length, take, drop, replicate, Option, None, Some, Result, Ok, Err}
+use Rattle.refusals.specs.declared.Refusal.{Refusal}
+use Rattle.refusals.specs.Numbers.{number}
 use Rattle.octets.specs.Bytes.{byte}
 use Rattle.octets.specs.Placing.{placed}
 use Rattle.octets.specs.Delivery.{written_of, filled_of}
-use Rattle.octets.specs.declared.Written.{Written}
+use Rattle.octets.specs.Delivery.{Written}
 use Rattle.numbers.specs.Number.{number_at}
 use Rattle.kinds.specs.Kinds.{content}
 use Rattle.batch.specs.Entries.{Contents, list_of}
 use Rattle.batch.specs.Entries.Contents.{entries, refused}
 use Rattle.journal.specs.Records.{restored, records_of}
-use Rattle.journal.specs.declared.Entry.{Entry}
+use Rattle.journal.specs.declared.Entry.{Entry as Given}
 
 -- the refusal that a list meets, and its records
 abbrev pub refusal_in : Contents → ℕ
@@ -31,6 +33,14 @@ journal_written s b = written_of (refusal_in (list_of s)) (records_in (list_of s
 abbrev pub journal_filled : List ℕ → List ℕ → List ℕ
 journal_filled s b = filled_of (refusal_in (list_of s)) (records_in (list_of s)) b
 
+-- what reading answers by the papers' numbers: a refusal's, or 0 with the identifier, the length of the data, the bytes taken, and the data
+pub record Entry : Type 0 where
+  pub refusal : ℕ
+  pub id : ℕ
+  pub length : ℕ
+  pub taken : ℕ
+  pub bytes : List ℕ
+
 -- the end (0) and a refused record: no identifier, no data, nothing taken
 abbrev pub nothing : ℕ → Entry
 nothing v = record { refusal = v; id = 0; length = 0; taken = 0; bytes = replicate 1024 0 }
@@ -41,6 +51,25 @@ given id d = record { refusal = 0; id = id; length = length d; taken = 5 + lengt
 
 abbrev pub judged : ℕ → ℕ → List ℕ → Entry
 judged v id d = cond (eqb v 0) (given id d) (nothing v)
+
+-- the message that a call returned, and what reading returned: no message is the end
+abbrev pub message : Given → Entry
+message e = record { refusal = 0; id = e.id; length = e.length; taken = e.taken; bytes = e.bytes }
+
+abbrev pub answer : Result Given Refusal → Entry
+answer (Ok e) = message e
+answer (Err r) = nothing (number r)
+
+abbrev pub entry : Result (Option Given) Refusal → Entry
+entry (Ok None) = nothing 0
+entry (Ok (Some e)) = message e
+entry (Err r) = nothing (number r)
+
+-- whether it returned the end, and neither a message nor a refusal
+abbrev pub ended : Result (Option Given) Refusal → Bool
+ended (Ok None) = true
+ended (Ok (Some e)) = false
+ended (Err r) = false
 
 -- the first record of the bytes
 abbrev pub marked : List ℕ → Bool

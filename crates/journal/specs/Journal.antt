@@ -1,13 +1,12 @@
 -- Document 02, Point 11: how data is stored; and writing a list and reading it to the end returns that list.
 use Rattle.std.specs.Prelude.{List, [], ◌∷◌, ◌++◌, ◌≡◌, ℕ, zero, suc, ◌+◌, ◌-◌, ◌/◌, ◌≤◌, length, take, drop}
-use Rattle.octets.specs.declared.Written.{Written}
+use Rattle.octets.specs.Delivery.{Written}
 use Rattle.kinds.specs.Kinds.{content}
 use Rattle.columns.specs.Columns.{crossed}
 use Rattle.batch.specs.Entries.{Entry, list_of, AcceptableEntry}
 use Rattle.batch.specs.Entries.Contents.{entries}
-use Rattle.journal.specs.declared.Entry.{Entry as Answer}
 use Rattle.journal.specs.Records.{stored, record_of}
-use Rattle.journal.specs.Calls.{nothing, given, read_of}
+use Rattle.journal.specs.Calls.{Entry as Answer, nothing, given, read_of}
 
 -- acceptable data d as it is stored: 56, n and n entries by column, the last behind a header; other kinds as they are
 pub record Stored (d : List ℕ) : Type 0 where

@@ -1,5 +1,5 @@
 -- Document 02, Point 11: a record of the journal, and the records of a list of messages.
-use Rattle.std.specs.Prelude.{cond, List, [], ◌∷◌, ◌++◌, ℕ, eqb, length}
+use Rattle.std.specs.Prelude.{cond, List, [], ◌∷◌, ◌++◌, ℕ, eqb, length, Option, None, Some}
 use Rattle.numbers.specs.Number.{bytes_of}
 use Rattle.columns.specs.Columns.{by_columns, by_rows}
 use Rattle.batch.specs.Entries.{Entry}
@@ -12,6 +12,11 @@ layout_of id =
     (cond (eqb id 0x52) (record { header = 0; width = 7 })
     (cond (eqb id 0xF5) (record { header = 27; width = 30 })
     (record { header = 0; width = 0 })))
+
+-- the one that a call returned
+abbrev pub layout : Option Layout → Layout
+layout (Some l) = l
+layout None = record { header = 0; width = 0 }
 
 -- the data as it is stored, and in line order again
 abbrev pub stored : ℕ → List ℕ → List ℕ

@@ -1,57 +1,88 @@
 // The journal of given messages: records one after the other in a buffer, the repeated entries of a message by column.
 #![tactic(auto)]
 
-ghost use Rattle.std.specs.Prelude.{◌≡◌, ◌+◌, ◌≤◌, ◌<◌, length};
-ghost use Rattle.octets.specs.Placing.{placed};
-ghost use Rattle.numbers.specs.Number.{number_at};
+ghost use Rattle.std.specs.Prelude.{◌≡◌, ◌+◌, ◌≤◌, ◌<◌, eqb, length, take};
+ghost use Rattle.octets.specs.Placing.{fits, placed};
+ghost use Rattle.octets.specs.Delivery.{written};
 ghost use Rattle.kinds.specs.Kinds.{content};
-ghost use Rattle.batch.specs.Entries.{list_of};
-ghost use Rattle.journal.specs.Records.{layout_of, restored, head_bytes, record_of};
-ghost use Rattle.journal.specs.Calls.{refusal_in, records_in, measured, journal_written, journal_filled, nothing, judged, marked, read_of};
+ghost use Rattle.batch.specs.Walks.{left, entry as taken};
+ghost use Rattle.journal.specs.Records.{layout_of, layout, stored, restored, head_bytes, record_of};
+ghost use Rattle.journal.specs.Calls.{refusal_in, records_in, measured, journal_written, journal_filled, judged, answer, entry, ended, marked, read_of};
 
-use octets::Written;
+use batch::{Message, Messages};
+use refusals::Refusal;
+
+// The mark that a record begins with.
+const MARK: [u8; 2] = [0x4E, 0x56];
 
 // The longest data of a message.
 pub const CAPACITY: usize = 1024;
 
-// What reading answers: a refusal, or 0 with a message, whose data are the first `length` bytes, and how many bytes its record took.
-// At the end there is no message, and nothing is taken.
-#[derive(Clone, Copy)]
+// A message that was read, whose data are the first `length` bytes, and how many bytes its record took.
+#[derive(Clone, Copy, Debug, PartialEq, Eq)]
 pub struct Entry {
-    pub refusal: u8,
     pub id: u8,
     pub length: usize,
     pub taken: usize,
     pub bytes: [u8; CAPACITY],
 }
 
-// The repeated entries of a kind: the bytes before them, and their width; 0 where there are none.
+impl Entry {
+    // The data, in line order.
+    pub fn data(&self) -> &[u8]
+        ensures { result.now ≡ take self.now.length self.now.bytes }
+    {
+        &self.bytes[..self.length.min(CAPACITY)]
+    }
+}
+
+// The repeated entries of a kind: the bytes before them, and their width.
 #[derive(Clone, Copy)]
 struct Layout {
     header: usize,
     width: usize,
 }
 
-fn layout_of(id: u8) -> Layout
-    ensures { result ≡ layout_of id }
+#[tactic(auto, unfolding(crate::specs::Records::layout_of))]
+fn layout_of(id: u8) -> Option<Layout>
+    ensures { layout result ≡ layout_of id }
 {
     match id {
-        0x47 => Layout {
+        0x47 => Some(Layout {
             header: 0,
             width: 3,
-        },
-        0x52 => Layout {
+        }),
+        0x52 => Some(Layout {
             header: 0,
             width: 7,
-        },
-        0xF5 => Layout {
+        }),
+        0xF5 => Some(Layout {
             header: 27,
             width: 30,
-        },
-        _ => Layout {
-            header: 0,
-            width: 0,
-        },
+        }),
+        _ => None,
+    }
+}
+
+// Puts data as a record has them into the buffer, from `at` on, and says whether they are within it.
+fn store(id: u8, body: &[u8], buf: &mut [u8], at: usize) -> bool
+    ensures { (result ≡ fits buf.old at (length body.now))
+        × (buf.new ≡ placed buf.old at (stored id body.now)) }
+{
+    match layout_of(id) {
+        Some(l) => columns::to_columns(body, l.header, l.width, buf, at),
+        None => octets::put(body, buf, at),
+    }
+}
+
+// Puts them in line order again, in the same way.
+fn unstore(id: u8, body: &[u8], buf: &mut [u8], at: usize) -> bool
+    ensures { (result ≡ fits buf.old at (length body.now))
+        × (buf.new ≡ placed buf.old at (restored id body.now)) }
+{
+    match layout_of(id) {
+        Some(l) => columns::to_rows(body, l.header, l.width, buf, at),
+        None => octets::put(body, buf, at),
     }
 }
 
@@ -60,154 +91,102 @@ fn head(id: u8, n: usize) -> [u8; 5]
     requires { n < 65536 }
     ensures { result ≡ head_bytes id n }
 {
-    [0x4E, 0x56, id, (n % 256) as u8, (n / 256) as u8]
+    let [low, high, ..] = n.to_le_bytes();
+    [MARK[0], MARK[1], id, low, high]
 }
 
 // Puts the record of a message into the buffer, from `at` on.
-fn put_record(id: u8, body: &[u8], buf: &mut [u8], at: usize)
-    requires { (length body.now < 65536) × (at + (5 + length body.now) ≤ length buf.old) }
-    ensures { buf.new ≡ placed buf.old at (record_of (record { id = id; body = body.now })) }
+fn put_record(message: Message<'_>, buf: &mut [u8], at: usize)
+    requires { (length message.data.now < 65536) × (at + (5 + length message.data.now) ≤ length buf.old) }
+    ensures { buf.new ≡ placed buf.old at (record_of (taken message.entry)) }
 {
-    let top = head(id, body.len());
+    let top = head(message.id, message.data.len());
     octets::put(&top, buf, at);
-    let l = layout_of(id);
-    columns::to_columns(body, l.header, l.width, buf, at + 5);
+    store(message.id, message.data, buf, at + 5);
 }
 
-// The length of a list's records, or the refusal that it meets first.
-fn measure(list: &[u8]) -> Written
-    ensures { result ≡ measured (list_of list.now) }
+// The length of the records of messages, or the refusal that is met first.
+fn measure(messages: Messages<'_>) -> Result<usize, Refusal>
+    ensures { written result ≡ measured (left messages.entry) }
 {
-    if batch::LIMIT < list.len() {
-        return Written {
-            refusal: refusals::LIST,
-            length: 0,
-        };
-    }
-    let mut at: usize = 0;
     let mut length: usize = 0;
-    while at < list.len() {
-        let e = batch::entry_at(list, at);
-        let n = e.length;
-        if e.refusal != 0 {
-            return Written {
-                refusal: e.refusal,
-                length: 0,
-            };
-        }
-        length += 5 + n;
-        at += 3 + n;
+    for message in messages {
+        length += 5 + message?.data.len();
     }
-    Written {
-        refusal: 0,
-        length: length,
-    }
+    Ok(length)
 }
 
-// The length of the entry at a place of a list.
-fn length_at(list: &[u8], at: usize) -> usize
-    requires { at < length list.now }
-    ensures { (result ≡ number_at list.now (at + 1) 2) × (result < 65536) }
+// Puts the records of messages, none of which is refused, at the buffer's start.
+fn put_records(messages: Messages<'_>, buf: &mut [u8])
+    requires { (refusal_in (left messages) ≡ 0) × (length (records_in (left messages)) ≤ length buf.old) }
+    ensures { buf.new ≡ placed buf.old 0 (records_in (left messages.entry)) }
 {
-    numbers::u16_at(list, at + 1) as usize
-}
-
-// Puts the records of a list that is not refused at the buffer's start.
-fn put_records(list: &[u8], buf: &mut [u8])
-    requires { (refusal_in (list_of list.now) ≡ 0) × (length (records_in (list_of list.now)) ≤ length buf.old) }
-    ensures { buf.new ≡ placed buf.old 0 (records_in (list_of list.now)) }
-{
-    let mut at: usize = 0;
     let mut to: usize = 0;
-    while at < list.len() {
-        let n = length_at(list, at);
-        let from = at + 3;
-        let end = from + n;
-        put_record(list[at], &list[from..end], buf, to);
-        at = end;
-        to += 5 + n;
+    for message in messages {
+        let Ok(given) = message else {
+            return;
+        };
+        put_record(given, buf, to);
+        to += 5 + given.data.len();
     }
 }
 
 // Writes the records of a list of messages from the buffer's start on. A refusal writes nothing.
-pub fn write(list: &[u8], buf: &mut [u8]) -> Written
-    ensures { (result ≡ journal_written list.now buf.old)
+pub fn write(list: &[u8], buf: &mut [u8]) -> Result<usize, Refusal>
+    ensures { (written result ≡ journal_written list.now buf.old)
         × (buf.new ≡ journal_filled list.now buf.old) }
 {
-    let m = measure(list);
-    if m.refusal != 0 {
-        return m;
+    let messages = Messages::new(list)?;
+    let length = measure(messages)?;
+    if buf.len() < length {
+        return Err(Refusal::Buffer);
     }
-    if buf.len() < m.length {
-        return Written {
-            refusal: refusals::BUFFER,
-            length: 0,
-        };
-    }
-    put_records(list, buf);
-    m
+    put_records(messages, buf);
+    Ok(length)
 }
 
-// The end, or a refusal.
-fn nothing(refusal: u8) -> Entry
-    ensures { result ≡ nothing refusal }
-{
-    Entry {
-        refusal: refusal,
-        id: 0,
-        length: 0,
-        taken: 0,
-        bytes: [0u8; CAPACITY],
-    }
-}
-
-// The message of a record, by its identifier and its data as it is stored. Data that is too long for the array is refused as it is.
-fn restore(id: u8, body: &[u8]) -> Entry
-    ensures { result ≡ judged (content id (restored id body.now)) id (restored id body.now) }
+// The message of a record, by its identifier and its data as it is stored.
+fn restore(id: u8, body: &[u8]) -> Result<Entry, Refusal>
+    ensures { answer result ≡ judged (content id (restored id body.now)) id (restored id body.now) }
 {
     let n = body.len();
-    let l = layout_of(id);
     let mut bytes = [0u8; CAPACITY];
-    if !columns::to_rows(body, l.header, l.width, &mut bytes, 0) {
-        return nothing(kinds::content(id, body));
-    }
-    let refusal = kinds::content(id, &bytes[..n]);
-    if refusal != 0 {
-        return nothing(refusal);
-    }
-    Entry {
-        refusal: 0,
-        id: id,
+    let in_order = unstore(id, body, &mut bytes, 0);
+    // Data that is too long for the array is judged as it is, since no kind has that length.
+    let data = if in_order { &bytes[..n] } else { body };
+    kinds::content(id, data)?;
+    Ok(Entry {
+        id,
         length: n,
         taken: 5 + n,
-        bytes: bytes,
-    }
+        bytes,
+    })
 }
 
 fn is_marked(bytes: &[u8]) -> bool
     ensures { result ≡ marked bytes.now }
 {
-    (octets::byte_at(bytes, 0) == 0x4E) & (octets::byte_at(bytes, 1) == 0x56)
+    bytes.starts_with(&MARK)
 }
 
-// Reads the first record of the bytes.
-pub fn read(bytes: &[u8]) -> Entry
-    ensures { result ≡ read_of bytes.now }
+// Reads the first record of the bytes; at their end there is none.
+pub fn read(bytes: &[u8]) -> Result<Option<Entry>, Refusal>
+    ensures { (entry result ≡ read_of bytes.now) × (ended result ≡ eqb (length bytes.now) 0) }
 {
     let n = bytes.len();
     if n == 0 {
-        return nothing(0);
+        return Ok(None);
     }
     if (1 < n) & !is_marked(bytes) {
-        return nothing(refusals::MARK);
+        return Err(Refusal::Mark);
     }
     if n < 5 {
-        return nothing(refusals::SHORT);
+        return Err(Refusal::Short);
     }
-    let length = numbers::u16_at(bytes, 3) as usize;
+    let length = usize::from(numbers::u16_at(bytes, 3));
     if n - 5 < length {
-        return nothing(refusals::SHORT);
+        return Err(Refusal::Short);
     }
     let end = 5 + length;
-    restore(bytes[2], &bytes[5..end])
+    restore(bytes[2], &bytes[5..end]).map(Some)
 }

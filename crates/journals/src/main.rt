@@ -15,320 +15,185 @@
 // All numbers are decimal.
 #![tactic(auto)]
 
+use answering::{digest, print_answer};
 use journal::Entry;
-use octets::Written;
+use refusals::Refusal;
+use std::io;
 
 // Sums stay below this, far above any that a list comes to.
 const LARGE: u64 = 0x100000000;
 
-fn end() {
-    io::write_all(1, b"\n");
-}
-
-fn number(n: u64) {
-    io::write_all(1, b" ");
-    io::print_decimal(1, n);
-}
-
-fn size(n: usize) {
-    number(n as u64);
-}
-
-fn octet(n: u8) {
-    number(n as u64);
-}
-
-fn digest_byte(d: u64, b: u8) -> u64 {
-    (d % 65521 * 31 + b as u64) % 65521
-}
-
-fn digest(before: u64, s: &[u8]) -> u64 {
-    let mut d = before;
-    let mut i: usize = 0;
-    while i < s.len() {
-        d = digest_byte(d, s[i]);
-        i += 1;
-    }
-    d
-}
-
 // What reading a journal to the end gave.
-#[derive(Clone, Copy)]
+#[derive(Clone, Copy, Default)]
 struct Through {
     messages: u64,
     taken: u64,
-    refusal: u8,
+    refusal: Option<Refusal>,
     digest: u64,
 }
 
-// Goes on with an identifier and a length in two bytes.
-fn digest_head(d: u64, id: u8, n: usize) -> u64 {
-    let low = digest_byte(digest_byte(d, id), (n % 256) as u8);
-    digest_byte(low, (n / 256 % 256) as u8)
+// Goes on with a message as a list has it: identifier, length in two bytes, data.
+fn digest_entry(before: u64, r: &Entry) -> u64 {
+    let [low, high, ..] = r.length.to_le_bytes();
+    digest(digest(before, &[r.id, low, high]), r.data())
 }
 
-fn digest_first(d: u64, s: &[u8], n: usize) -> u64 {
-    if s.len() < n {
-        return d;
-    }
-    digest(d, &s[0..n])
-}
-
-fn heard(t: Through, r: Entry) -> Through {
-    if r.taken == 0 {
-        return Through {
-            messages: t.messages,
-            taken: t.taken,
-            refusal: r.refusal,
-            digest: t.digest,
-        };
-    }
-    let bytes = r.bytes;
+fn heard(t: Through, r: &Entry) -> Through {
     Through {
         messages: t.messages % LARGE + 1,
-        taken: t.taken % LARGE + (r.taken as u64) % LARGE,
-        refusal: r.refusal,
-        digest: digest_first(digest_head(t.digest, r.id, r.length), &bytes, r.length),
+        taken: t.taken % LARGE + r.taken as u64 % LARGE,
+        digest: digest_entry(t.digest, r),
+        ..t
     }
 }
 
-// Reads record after record, until one takes nothing.
+// Reads record after record, to the end or a refusal.
 fn read_through(s: &[u8]) -> Through {
-    let mut t = Through {
-        messages: 0,
-        taken: 0,
-        refusal: 0,
-        digest: 0,
-    };
-    let mut at: usize = 0;
-    let mut k: usize = 0;
-    while k < 30000 {
-        let r = journal::read(&s[at..]);
-        let n = r.taken;
-        t = heard(t, r);
-        if n == 0 {
-            return t;
+    let mut t = Through::default();
+    let mut rest = s;
+    for _ in 0..30000 {
+        match journal::read(rest) {
+            Ok(Some(r)) => {
+                t = heard(t, &r);
+                // A record that claims more than there is isn't believed.
+                rest = rest.get(r.taken..).unwrap_or(&[]);
+            }
+            Ok(None) => break,
+            Err(refusal) => {
+                t.refusal = Some(refusal);
+                break;
+            }
         }
-        // A record that claims more than there is isn't believed.
-        if s.len() - at < n {
-            return t;
-        }
-        at += n;
-        k += 1;
     }
     t
 }
 
-fn show_through(s: &[u8]) {
+fn show_through(rt: &impl Print, s: &[u8]) -> io::Result<()> {
     let t = read_through(s);
-    number(t.messages);
-    number(t.taken);
-    octet(t.refusal);
-    number(t.digest);
-    end();
+    let refusal = refusals::why(t.refusal);
+    println!(rt; " {} {} {refusal} {}", t.messages, t.taken, t.digest)
 }
 
-// What writing answered, the start of the buffer with 8 bytes more, and what reading it gives.
-fn show_written(w: Written, buf: &[u8], read: bool) {
-    let n = w.length;
-    octet(w.refusal);
-    size(n);
-    if buf.len() < n {
-        return;
-    }
-    if buf.len() - n < 8 {
-        return;
-    }
-    let past = n + 8;
-    number(digest(0, &buf[0..past]));
-    end();
-    if read & (w.refusal == 0) {
-        show_through(&buf[0..n]);
-    }
+// What writing answered, and the start of the buffer with 8 bytes more.
+fn show_written(rt: &impl Print, written: &Result<usize, Refusal>, buf: &[u8]) -> io::Result<()> {
+    print_answer(rt, written)?;
+    let Some((records, more)) = buf.split_at_checked(written.unwrap_or(0)) else {
+        return Ok(());
+    };
+    let Some(after) = more.get(..8) else {
+        return Ok(());
+    };
+    println!(rt; " {}", digest(digest(0, records), after))
 }
 
 // Writes the records of a list into so many bytes of a buffer, or all of it where there are no more.
-fn write_into(list: &[u8], buf: &mut [u8], room: usize) -> Written {
-    if buf.len() < room {
-        return journal::write(list, buf);
+fn write_into(list: &[u8], buf: &mut [u8], room: usize) -> Result<usize, Refusal> {
+    match buf.get_mut(..room) {
+        Some(lent) => journal::write(list, lent),
+        None => journal::write(list, buf),
     }
-    journal::write(list, &mut buf[0..room])
 }
 
-fn show_records(list: &[u8], room: usize, read: bool) {
-    let mut buf = [0xAAu8; 110008];
-    let w = write_into(list, &mut buf, room);
-    show_written(w, &buf, read);
+// Shows them in a buffer of AAh. How long they are, where they are written.
+fn show_records(
+    rt: &impl Print,
+    list: &[u8],
+    buf: &mut [u8],
+    room: usize,
+) -> io::Result<Option<usize>> {
+    buf.fill(0xAA);
+    let written = write_into(list, buf, room);
+    show_written(rt, &written, buf)?;
+    Ok(written.ok())
 }
 
-// How long the records are, by writing them.
-fn records_length(list: &[u8]) -> usize {
-    let mut buf = [0u8; 110000];
-    journal::write(list, &mut buf).length
-}
-
-fn show_journal(list: &[u8], less: u8) {
-    show_records(list, 110000, true);
-    let n = records_length(list);
-    let k = less as usize;
-    if n < k {
-        show_records(list, 0, false);
-        return;
+fn show_journal(rt: &impl Print, list: &[u8], less: u8) -> io::Result<()> {
+    let mut buf = [0u8; 110008];
+    let written = show_records(rt, list, &mut buf, 110000)?;
+    if let Some(length) = written {
+        show_through(rt, buf.get(..length).unwrap_or(&[]))?;
     }
-    show_records(list, n - k, false);
+    let room = written.unwrap_or(0).saturating_sub(usize::from(less));
+    show_records(rt, list, &mut buf, room)?;
+    Ok(())
 }
 
-fn show_record(s: &[u8]) {
-    let r = journal::read(s);
-    let bytes = r.bytes;
-    octet(r.refusal);
-    octet(r.id);
-    size(r.length);
-    size(r.taken);
-    number(digest(0, &bytes));
-    show_through(s);
+fn show_record(rt: &impl Print, s: &[u8]) -> io::Result<()> {
+    let first = journal::read(s);
+    match first {
+        Ok(Some(r)) => {
+            print!(rt; " 0 {} {} {}", r.id, r.length, r.taken)?;
+            print!(rt; " {}", digest(0, &r.bytes))?;
+        }
+        // The digest of zeros is 0.
+        _ => print!(rt; " {} 0 0 0 0", refusals::code(&first))?,
+    }
+    show_through(rt, s)
 }
 
-fn show_damaged(s: &[u8], at: usize, change: u8) {
+fn show_damaged(rt: &impl Print, s: &[u8], at: usize, change: u8) -> io::Result<()> {
     let mut buf = [0u8; 1024];
-    let n = s.len();
-    if 1024 < n {
-        return;
+    let Some(copy) = buf.get_mut(..s.len()) else {
+        return Ok(());
+    };
+    copy.copy_from_slice(s);
+    if let Some(b) = copy.get_mut(at) {
+        *b ^= change;
     }
-    octets::put(s, &mut buf, 0);
-    let one = [octets::byte_at(s, at) ^ change];
-    octets::put(&one, &mut buf, at);
-    size(at);
-    show_through(&buf[0..n]);
+    print!(rt; " {at}")?;
+    show_through(rt, copy)
 }
 
-fn show_damage(s: &[u8], change: u8) {
-    let mut k: usize = 0;
-    while k < s.len() {
-        show_damaged(s, k, change);
-        k += 1;
+fn show_damage(rt: &impl Print, s: &[u8], change: u8) -> io::Result<()> {
+    for at in 0..s.len() {
+        show_damaged(rt, s, at, change)?;
     }
+    Ok(())
 }
 
-fn show_cuts(s: &[u8]) {
-    let mut k: usize = 0;
-    while k <= s.len() {
-        size(k);
-        show_through(&s[0..k]);
-        k += 1;
+fn show_cuts(rt: &impl Print, s: &[u8]) -> io::Result<()> {
+    for n in 0..=s.len() {
+        print!(rt; " {n}")?;
+        show_through(rt, &s[..n])?;
     }
+    Ok(())
 }
 
-fn truth(b: bool) {
-    if b {
-        size(1);
-        return;
-    }
-    size(0);
+// Whether they were within the buffer, and the digest of it.
+fn show_turned(rt: &impl Print, within: bool, buf: &[u8]) -> io::Result<()> {
+    print!(rt; " {} {}", u8::from(within), digest(0, buf))
 }
 
-fn show_columns(header: u8, width: u8, at: u8, body: &[u8]) {
+fn show_both_ways(rt: &impl Print, s: &[u8]) -> io::Result<()> {
+    let [header, width, at, body @ ..] = s else {
+        return Ok(());
+    };
+    let header = usize::from(*header);
+    let width = usize::from(*width);
+    let at = usize::from(*at);
     let mut columns = [0xAAu8; 64];
-    truth(columns::to_columns(
-        body,
-        header as usize,
-        width as usize,
-        &mut columns,
-        at as usize,
-    ));
-    number(digest(0, &columns));
+    let within = columns::to_columns(body, header, width, &mut columns, at);
+    show_turned(rt, within, &columns)?;
     let mut rows = [0xAAu8; 64];
-    truth(columns::to_rows(
-        body,
-        header as usize,
-        width as usize,
-        &mut rows,
-        at as usize,
-    ));
-    number(digest(0, &rows));
-    end();
+    let within = columns::to_rows(body, header, width, &mut rows, at);
+    show_turned(rt, within, &rows)?;
+    println!(rt)
 }
 
-fn show_both_ways(s: &[u8]) {
-    if s.len() < 3 {
-        return;
-    }
-    show_columns(s[0], s[1], s[2], &s[3..]);
-}
-
-fn show_journals(what: u8, change: u8, s: &[u8]) {
+fn show(rt: &impl Print, what: u8, change: u8, s: &[u8]) -> io::Result<()> {
     match what {
-        3 => show_journal(s, change),
-        4 => show_record(s),
-        5 => show_damage(s, change),
-        6 => show_cuts(s),
-        _ => show_both_ways(s),
+        3 => show_journal(rt, s, change),
+        4 => show_record(rt, s),
+        5 => show_damage(rt, s, change),
+        6 => show_cuts(rt, s),
+        _ => show_both_ways(rt, s),
     }
 }
 
-// The part, so many times, from the buffer's start on; the place after it.
-fn lay(part: &[u8], count: usize, buf: &mut [u8]) -> usize {
-    let mut at: usize = 0;
-    let mut k: usize = 0;
-    while k < count {
-        if buf.len() < at {
-            return at;
-        }
-        if buf.len() - at < part.len() {
-            return at;
-        }
-        octets::put(part, buf, at);
-        at += part.len();
-        k += 1;
-    }
-    at
-}
-
-fn case(s: &[u8]) {
-    if s.len() < 6 {
-        return;
-    }
-    let rest = &s[6..];
-    let n = numbers::u16_at(s, 4) as usize;
-    if rest.len() < n {
-        return;
-    }
-    let mut buf = [0u8; 66000];
-    let at = lay(&rest[0..n], numbers::u16_at(s, 2) as usize, &mut buf);
-    let tail = &rest[n..];
-    if 66000 < at {
-        return;
-    }
-    if 66000 - at < tail.len() {
-        return;
-    }
-    octets::put(tail, &mut buf, at);
-    let end = at + tail.len();
-    show_journals(s[0], s[1], &buf[0..end]);
-}
-
-fn line(s: &[u8]) {
-    if octets::byte_at(s, 0) == b'#' {
-        io::write_all(1, s);
-        end();
-        return;
-    }
+fn main(rt: HostRuntime) -> io::Result<()> {
+    let mut input = [0u8; 131072];
     let mut bytes = [0u8; 4096];
-    let n = hexlines::parse(s, &mut bytes);
-    case(&bytes[0..n]);
-}
-
-fn main() {
-    let mut buf = [0u8; 131072];
-    let n = io::read_full(0, &mut buf);
-    let s = &buf[..n];
-    let mut at: usize = 0;
-    while at < s.len() {
-        let end = hexlines::line_end(s, at);
-        line(&s[at..end]);
-        if s.len() <= end {
-            return;
-        }
-        at = end + 1;
-    }
+    answering::each_list(&rt, &mut input, &mut bytes, |what, change, s| {
+        show(&rt, what, change, s)
+    })
 }

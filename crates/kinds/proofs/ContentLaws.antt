@@ -10,7 +10,9 @@ use borrow.Author.Tests.{eqb-true, eqb-false, leb-true, not-true}
 use lib.Dec.{eqb, leb}
 use lib.ListN.{length}
 use Rattle.kinds.specs.declared.Kind.{Kind}
-use Rattle.kinds.specs.Kinds.{Row, table, row_in, allows, length_ok, judged, content}
+use Rattle.kinds.specs.declared.Lengths.{Lengths}
+use Rattle.kinds.specs.declared.Lengths.TheVariants.{OneOf, Entries}
+use Rattle.kinds.specs.Kinds.{Row, table, row_in, allowed, allows, length_ok, judged, content}
 
 -- the test holds of each row
 abbrev every : (Row → Bool) → List Row → Bool
@@ -86,8 +88,12 @@ content_usable id d h =
     (other 0x10 p.0, other 0x03 p.1, other 0xFF q.1)
 
 -- the longest length of a kind
+abbrev longest_of : Lengths → ℕ
+longest_of (OneOf a b) = max a b
+longest_of (Entries h w m) = h + m * w
+
 abbrev longest : Kind → ℕ
-longest k = max (max k.short k.long) (k.header + k.most * k.width)
+longest k = longest_of k.lengths
 
 one_of : (n a b : ℕ) → eqb n a || eqb n b ≡ true → n ≤ max a b
 one_of n a b e = go (eqb n a) refl e
@@ -107,21 +113,11 @@ entries_of_lem n h w m e =
 
 allows_longest : (k : Kind) (n : ℕ) → allows k n ≡ true → n ≤ longest k
 unfolding allows
-allows_longest k n e = go (eqb k.width 0) e
+allows_longest k n e = go k.lengths e
   where
-    fixed : ℕ
-    fixed = max k.short k.long
-
-    full : ℕ
-    full = k.header + k.most * k.width
-
-    go : (t : Bool)
-        → cond t (eqb n k.short || eqb n k.long)
-        (leb k.header n && eqb ((n - k.header) % k.width) 0 && leb ((n - k.header) / k.width) k.most)
-        ≡ true
-        → n ≤ max fixed full
-    go true h = omega (arith, one_of n k.short k.long h, le-max_left fixed full)
-    go false h = omega (arith, entries_of_lem n k.header k.width k.most h, le-max_right fixed full)
+    go : (l : Lengths) → allowed l n ≡ true → n ≤ longest_of l
+    go (OneOf a b) h = one_of n a b h
+    go (Entries h w m) q = entries_of_lem n h w m q
 
 -- no kind is longer than the data that a frame holds
 pub content_length : (id : ℕ) (d : List ℕ) → content id d ≡ 0 → length d ≤ 1024

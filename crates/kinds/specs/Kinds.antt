@@ -1,9 +1,10 @@
 -- Document 01, "Kinds and fields" and questions 10 to 12: the twenty-one kinds (F5h is of document 02), and what is acceptable.
-use Rattle.std.specs.Prelude.{Bool, true, cond, ◌&&◌, ◌||◌, List, [], ◌∷◌, ℕ, ◌-◌, ◌/◌, ◌%◌, eqb, leb, length}
+use Rattle.std.specs.Prelude.{Bool, true, cond, ◌&&◌, ◌||◌, List, [], ◌∷◌, ℕ, ◌-◌, ◌/◌, ◌%◌, eqb, leb, length, None, Some}
+use Rattle.std.specs.Prelude as Prelude
 use Rattle.std.proofs.Math.Option.{Option, none, some}
 use Rattle.kinds.specs.declared.Kind.{Kind}
-use Rattle.kinds.specs.declared.Listed.{Listed}
-use Rattle.kinds.specs.declared.Listed.TheVariants.{As, Nothing}
+use Rattle.kinds.specs.declared.Lengths.{Lengths}
+use Rattle.kinds.specs.declared.Lengths.TheVariants.{OneOf, Entries}
 use Rattle.ranges.specs.Ranges.{free, in_1f, in_20, in_23, in_43, in_46, in_47, in_49, in_eb, in_52}
 use Rattle.octets.specs.Bytes.{byte}
 
@@ -14,13 +15,13 @@ pub record Row : Type 0 where
 
 -- one of two lengths; one length; up to most entries after a header
 abbrev pub one_of : ℕ → ℕ → ℕ → (List ℕ → Bool) → Row
-one_of i a b f = record { kind = record { id = i; short = a; long = b; header = 0; width = 0; most = 0 }; ranges = f }
+one_of i a b f = record { kind = record { id = i; lengths = OneOf a b }; ranges = f }
 
 abbrev pub only : ℕ → ℕ → (List ℕ → Bool) → Row
 only i a f = one_of i a a f
 
 abbrev pub entries : ℕ → ℕ → ℕ → ℕ → (List ℕ → Bool) → Row
-entries i h w m f = record { kind = record { id = i; short = h; long = h; header = h; width = w; most = m }; ranges = f }
+entries i h w m f = record { kind = record { id = i; lengths = Entries h w m }; ranges = f }
 
 unfoldable pub table : List Row
 table =
@@ -53,23 +54,29 @@ row_in [] id = none
 row_in (r ∷ rs) id = cond (eqb r.kind.id id) (some r) (row_in rs id)
 
 -- the length of a kind that has one
+abbrev pub first_length : Lengths → ℕ
+first_length (OneOf a b) = a
+first_length (Entries h w m) = h
+
 abbrev pub one_length : Option Row → ℕ
 one_length none = 0
-one_length (some r) = r.kind.short
+one_length (some r) = first_length r.kind.lengths
 
 abbrev pub length_of : ℕ → ℕ
 length_of id = one_length (row_in table id)
 
 -- the row as the code answers it
-abbrev pub listed : Option Row → Listed
-listed none = Nothing
-listed (some r) = As r.kind
+abbrev pub listed : Option Row → Prelude.Option Kind
+listed none = None
+listed (some r) = Some r.kind
 
 -- question 11: the table's lengths, and 49h's rule that its first byte chooses between the two
+abbrev pub allowed : Lengths → ℕ → Bool
+allowed (OneOf a b) n = eqb n a || eqb n b
+allowed (Entries h w m) n = leb h n && eqb ((n - h) % w) 0 && leb ((n - h) / w) m
+
 unfoldable pub allows : Kind → ℕ → Bool
-allows k n =
-    cond (eqb k.width 0) (eqb n k.short || eqb n k.long)
-    (leb k.header n && eqb ((n - k.header) % k.width) 0 && leb ((n - k.header) / k.width) k.most)
+allows k n = allowed k.lengths n
 
 unfoldable pub chosen_49 : ℕ → ℕ → Bool
 chosen_49 first n = cond (eqb first 1) (eqb n 130) (cond (eqb first 2) (eqb n 93) true)

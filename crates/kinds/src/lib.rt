@@ -3,19 +3,29 @@
 
 mod table; // questions 10 and 11: the twenty-one kinds and their lengths
 
-ghost use Rattle.std.specs.Prelude.{◌≡◌};
+ghost use Rattle.std.specs.Prelude.{◌≡◌, ◌==◌, ◌&&◌, ◌%◌, ◌/◌, eqb, leb};
+ghost use Rattle.std.specs.List.{find};
+ghost use Rattle.refusals.specs.Numbers.{code};
 ghost use Rattle.kinds.specs.Kinds.{table, row_in, listed, allows, chosen_49, length_ok, in_range, content};
 
-// A row of the table of kinds: the identifier and the allowed lengths. Without entries (width 0) a length is `short` or `long`;
-// with entries it is `header` and up to `most` times `width`.
+use refusals::Refusal;
+
+// The lengths that a kind allows: one or the other, or those of a header and up to `most` entries of `width` bytes.
+#[derive(Clone, Copy)]
+pub enum Lengths {
+    OneOf(usize, usize),
+    Entries {
+        header: usize,
+        width: usize,
+        most: usize,
+    },
+}
+
+// A kind of message: its identifier and its lengths.
 #[derive(Clone, Copy)]
 pub struct Kind {
     pub id: u8,
-    pub short: usize,
-    pub long: usize,
-    pub header: usize,
-    pub width: usize,
-    pub most: usize,
+    pub lengths: Lengths,
 }
 
 // The lengths of the kinds whose latest message a reader keeps. They are the table's.
@@ -29,41 +39,40 @@ pub const LENGTH_4B: usize = 42;
 
 pub const LENGTH_EB: usize = 26;
 
-// The row of an identifier, if it is listed.
-#[derive(Clone, Copy)]
-enum Listed {
-    As(Kind),
-    Nothing,
+// The kind of an identifier in a table.
+fn find_in(kinds: &[Kind], id: u8) -> Option<Kind>
+    ensures { result ≡ find (λ (k : Kind). k.id == id) kinds.now }
+{
+    kinds.iter().copied().find(|kind| kind.id == id)
 }
 
-// Question 10: the row of an identifier.
-fn find_kind(id: u8) -> Listed
+// Question 10: the kind of an identifier, if it is listed.
+fn find_kind(id: u8) -> Option<Kind>
     ensures { result ≡ listed (row_in table id) }
 {
-    let kinds = table::KINDS;
-    let mut i: usize = 0;
-    while i < 21 {
-        let k = kinds[i];
-        if k.id == id {
-            return Listed::As(k);
-        }
-        i += 1;
-    }
-    Listed::Nothing
+    find_in(&table::KINDS, id)
 }
 
-// Whether the table allows a length.
+// Whether as many bytes are entries of this width, and at most so many.
+fn are_entries(n: usize, width: usize, most: usize) -> bool
+    ensures { result ≡ (eqb (n % width) 0 && leb (n / width) most) }
+{
+    n.is_multiple_of(width) && n <= width.saturating_mul(most)
+}
+
+// Whether a kind allows a length.
+#[tactic(auto, unfolding(crate::specs::Kinds::allows))]
 fn allows_length(k: Kind, n: usize) -> bool
     ensures { result ≡ allows k n }
 {
-    if k.width == 0 {
-        return (n == k.short) | (n == k.long);
+    match k.lengths {
+        Lengths::OneOf(short, long) => n == short || n == long,
+        Lengths::Entries {
+            header,
+            width,
+            most,
+        } => header <= n && are_entries(n - header, width, most),
     }
-    if n < k.header {
-        return false;
-    }
-    let rest = n - k.header;
-    (rest % k.width == 0) & (rest / k.width <= k.most)
 }
 
 // 49h: the first byte chooses between the two lengths.
@@ -106,19 +115,18 @@ pub fn in_range(id: u8, body: &[u8]) -> bool
     }
 }
 
-// Questions 10 to 12: 0 where all are yes, else the number of the first no.
-pub fn content(id: u8, body: &[u8]) -> u8
-    ensures { result ≡ content id body.now }
+// Questions 10 to 12, in order: the first that says no refuses.
+pub fn content(id: u8, body: &[u8]) -> Result<(), Refusal>
+    ensures { code result ≡ content id body.now }
 {
-    let found = find_kind(id);
-    let Listed::As(k) = found else {
-        return refusals::UNLISTED;
+    let Some(kind) = find_kind(id) else {
+        return Err(Refusal::Unlisted);
     };
-    if !length_ok(k, body) {
-        return refusals::LENGTH;
+    if !length_ok(kind, body) {
+        return Err(Refusal::Length);
     }
-    if in_range(id, body) {
-        return 0;
+    if !in_range(id, body) {
+        return Err(Refusal::Range);
     }
-    refusals::RANGE
+    Ok(())
 }

@@ -1,28 +1,29 @@
--- Each kept kind has its own mark and its own data, computed.
+-- Each kept kind has its own data, if it is there, computed.
 use mathlib.Core.Bool.{Bool, true, false, not}
 use mathlib.Core.List.{List, [], ◌∷◌, map}
 use mathlib.Core.Option.{none, some}
 use mathlib.Core.Path.{◌≡◌, refl}
+use Prim.Native.Nat.{ℕ}
 use lib.ListN.{replicate}
+use Rattle.std.specs.Prelude.{Option as Held, Some, None}
 use Rattle.line.specs.Record.{Kept}
 use Rattle.line.specs.Record.Kept.{k_43, k_46, k_4a, k_4b, k_eb}
 use Rattle.latest.specs.Latest.{latest_of}
 use Rattle.latest.specs.declared.Latest.{Latest}
 
+abbrev pub when : Bool → List ℕ → Held (List ℕ)
+when true d = Some d
+when false d = None
+
 -- every other kind is there, as t says
 abbrev pub marked : Bool → Latest
 marked t =
     record {
-      has43 = t;
-      d43 = replicate 6 1;
-      has46 = not t;
-      d46 = replicate 10 2;
-      has4a = t;
-      d4a = replicate 33 3;
-      has4b = not t;
-      d4b = replicate 42 4;
-      haseb = t;
-      deb = replicate 26 5;
+      d43 = when t (replicate 6 1);
+      d46 = when (not t) (replicate 10 2);
+      d4a = when t (replicate 33 3);
+      d4b = when (not t) (replicate 42 4);
+      deb = when t (replicate 26 5);
     }
 
 abbrev pub kept : List Kept

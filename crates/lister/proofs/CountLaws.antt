@@ -8,13 +8,12 @@ use native.Mathlib.Omega.{arith}
 use borrow.Author.Tests.{le-ltb, ltb-true, ltb-false}
 use lib.Dec.{ltb}
 use lib.ListN.{length, drop, length-drop}
-use lib.Seq.{drop-drop}
 use Rattle.line.specs.Table.{Event}
 use Rattle.line.specs.Table.Event.{nothing, message, refusal}
 use Rattle.line.specs.Record.{Rec, Possible, limit, event_of, stepped, walk}
 use Rattle.record.specs.declared.Reader.{Reader}
 use Rattle.record.specs.declared.Fed.{Fed}
-use Rattle.record.specs.View.{Parts, view, parts_of, shown}
+use Rattle.record.specs.View.{Parts, view, parts_of, shown, told}
 use Rattle.record.specs.Posts.{FeedPost}
 use Rattle.lister.specs.Counting.{occurs, event_count, occurs_shown}
 use Rattle.lister.specs.Posts.{CountPost}
@@ -61,7 +60,7 @@ events_last r s x q h =
 
 -- a call that takes something, and then what is right from where it stopped
 pub events_more : (r : Reader) (s : List ℕ) (x : Fed) → FeedPost r s x → 0 < x.taken → (n : ℕ) → CountPost x.reader (drop x.taken s) n
-    → CountPost r s (occurs_shown x.answer.event + n)
+    → CountPost r s (occurs_shown (told x.answer.event) + n)
 events_more r s x q h n o =
     record {
       one = λ m. absurd (omega (arith, (q.asked.one m).2));
@@ -85,40 +84,36 @@ events_more r s x q h n o =
     kept : Possible (view r) → Possible (view x.reader)
     kept p = subst⁻¹ Possible w.0 (walk_possible s (view r) p)
 
-    event : occurs_shown x.answer.event ≡ occurs (walk (view r) s).answer
+    event : occurs_shown (told x.answer.event) ≡ occurs (walk (view r) s).answer
     event = ap (λ (y : Parts). occurs_shown y.event) w.1 ∙ count_shown (walk (view r) s).answer
 
--- at bytes of s were taken by the reader r₀, which is r now, and n events counted
-pub record Tally (r₀ : Reader) (s : List ℕ) (r : Reader) (at n : ℕ) : Type 0 where
-  pub within : at ≤ length s
-  pub few : n ≤ at
+-- the reader r₀ took all of s but for l, is r now, and n events are counted
+pub record Tally (r₀ : Reader) (s : List ℕ) (r : Reader) (l : List ℕ) (n : ℕ) : Type 0 where
+  pub few : n + length l ≤ length s
   pub whole : length r.bytes ≡ 1024
-  pub right : (m : ℕ) → CountPost r (drop at s) m → CountPost r₀ s (n + m)
+  pub right : (m : ℕ) → CountPost r l m → CountPost r₀ s (n + m)
 
-pub tally_none : (r : Reader) (s : List ℕ) → length r.bytes ≡ 1024 → Tally r s r 0 0
-tally_none r s w = record { within = omega arith; few = omega arith; whole = w; right = λ m o. rw zero-add o }
+pub tally_none : (r : Reader) (s : List ℕ) → length r.bytes ≡ 1024 → Tally r s r s 0
+tally_none r s w = record { few = omega arith; whole = w; right = λ m o. rw zero-add o }
 
-module _ {r₀ : Reader} {s : List ℕ} {r : Reader} {at n : ℕ} (w : Tally r₀ s r at n) (x : Fed) (q : FeedPost r (drop at s) x) where
-  pub tally_within : at + x.taken ≤ length s
-  tally_within = omega (arith, taken_fits r (drop at s) x q, length-drop at s, w.within)
+module _ {r₀ : Reader} {s : List ℕ} {r : Reader} {l : List ℕ} {n : ℕ} (w : Tally r₀ s r l n) (x : Fed) (q : FeedPost r l x) where
+  pub tally_within : x.taken ≤ length l
+  tally_within = taken_fits r l x q
 
   -- something was taken, and its event counted
-  pub tally_more : (j : ℕ) → 0 < x.taken → length x.reader.bytes ≡ 1024 → j ≡ occurs_shown x.answer.event → j ≤ 1
-      → Tally r₀ s x.reader (at + x.taken) (n + j)
+  pub tally_more : (j : ℕ) → 0 < x.taken → length x.reader.bytes ≡ 1024 → j ≡ occurs_shown (told x.answer.event) → j ≤ 1
+      → Tally r₀ s x.reader (drop x.taken l) (n + j)
   tally_more j h k ej hj =
       record {
-        within = tally_within;
-        few = omega (arith, w.few);
+        few = omega (arith, length-drop x.taken l, w.few, tally_within);
         whole = k;
         right = λ m o.
-            let o' : CountPost x.reader (drop x.taken (drop at s)) m =
-            subst (λ (d : List ℕ). CountPost x.reader d m) (sym (drop-drop x.taken at s)) o in
-            let u : CountPost r₀ s (n + (occurs_shown x.answer.event + m)) =
-            w.right (occurs_shown x.answer.event + m) (events_more r (drop at s) x q h m o') in
-            let z : n + (occurs_shown x.answer.event + m) ≡ n + j + m = omega arith in
+            let u : CountPost r₀ s (n + (occurs_shown (told x.answer.event) + m)) =
+            w.right (occurs_shown (told x.answer.event) + m) (events_more r l x q h m o) in
+            let z : n + (occurs_shown (told x.answer.event) + m) ≡ n + j + m = omega arith in
             subst (λ (y : ℕ). CountPost r₀ s y) z u;
       }
 
   -- nothing was taken
   pub tally_last : x.taken ≡ 0 → CountPost r₀ s n
-  tally_last z = subst (λ (y : ℕ). CountPost r₀ s y) (add-zero n) (w.right 0 (events_last r (drop at s) x q z))
+  tally_last z = subst (λ (y : ℕ). CountPost r₀ s y) (add-zero n) (w.right 0 (events_last r l x q z))

@@ -13,17 +13,17 @@ use Rattle.line.specs.Record.{Rec, Possible, Asked, limit, walk}
 use Rattle.line.proofs.SliceSteps.{walk_fits}
 use Rattle.record.specs.declared.Reader.{Reader}
 use Rattle.record.specs.declared.Fed.{Fed}
-use Rattle.record.specs.View.{Parts, view, parts_of, shown}
+use Rattle.record.specs.View.{Parts, view, parts_of, shown, told, event_number}
 use Rattle.record.specs.Posts.{FeedPost}
 use Rattle.reader.proofs.Taking.{passed}
 use Rattle.listing.specs.Text.{longest_event}
 use Rattle.lister.specs.Listing.{line_of, Segment, segment}
-use Rattle.lister.specs.Posts.{event_number, line_shown}
+use Rattle.lister.specs.Posts.{line_shown}
 use Rattle.lister.proofs.SegmentLaws.{walk_mode, walk_possible, walk_fed, walk_some, bytes_ahead, segment_full, segment_limit, segment_walk}
 
 -- the line of an answer, as the code writes it
 abbrev pub line_from : Fed → List ℕ
-line_from x = line_shown (x.reader.head.fed - 1) x.answer.event x.answer.id x.answer.closed
+line_from x = line_shown (x.reader.head.fed - 1) (told x.answer.event) x.answer.id x.answer.closed
 
 line_shown_lem : (o : ℕ) (a : Said) → line_shown o (shown a).event (shown a).id (shown a).closed ≡ line_of o a
 line_shown_lem o nothing = refl
@@ -59,11 +59,11 @@ taken_fits r l x q = by (eqb x.taken 0) refl
 
 -- a call that takes nothing and leaves what p says
 abbrev Ends : Fed → Segment → Type 0
-Ends x p = (view x.reader ≡ p.after) × (event_number x.answer.event ≡ p.refusal) × (0 ≡ p.taken) × ([] ≡ p.lines)
+Ends x p = (view x.reader ≡ p.after) × (event_number (told x.answer.event) ≡ p.refusal) × (0 ≡ p.taken) × ([] ≡ p.lines)
 
 -- the last call takes nothing: all is listed, there is no room, or it is refused
 pub call_last : (r : Reader) (s : List ℕ) (room : ℕ) (x : Fed) → FeedPost r (offered_in room s) x → x.taken ≡ 0
-    → PartOut r s room x.reader (event_number x.answer.event) 0 []
+    → PartOut r s room x.reader (event_number (told x.answer.event)) 0 []
 call_last r s room x q z =
     record {
       one = λ m. let w = q.asked.one m in (w.0, ap (λ (p : Parts). event_number p.event) w.1, refl, refl);

@@ -6,6 +6,10 @@ use Prim.Native.Nat.{ℕ}
 use native.Mathlib.Omega.{arith}
 use borrow.Author.Tests.{le-leb, lt-leb, leb-true, leb-false}
 use lib.Dec.{leb}
+use Rattle.std.specs.Prelude.{Some}
+use Rattle.refusals.specs.declared.Refusal.{Refusal}
+use Rattle.refusals.specs.Numbers.{number, why}
+use Rattle.refusals.proofs.NumberLaws.{positive}
 use Rattle.line.specs.Record.{Rec, Possible, Fresh as Begun, fresh}
 use Rattle.line.specs.Record.Fresh.{made, refused}
 use Rattle.line.proofs.Mirror.{mirror, is_possible}
@@ -14,19 +18,25 @@ use Rattle.record.specs.View.{view}
 use Rattle.record.specs.Posts.{FreshPost}
 use Rattle.lister.specs.Posts.{Good}
 
-pub fresh_refused : (m : ℕ) (x : Fresh) → FreshPost m x → (x.refusal ≡ 0 → ⊥) → (fresh m ≡ refused 1) × (x.refusal ≡ 1)
+pub fresh_refused : (m : ℕ) (x : Fresh) → FreshPost m x → (why x.refusal ≡ 0 → ⊥) → (fresh m ≡ refused 1) × (why x.refusal ≡ 1)
 fresh_refused m x q n = by (leb m 1) refl
   where
-    by : (t : Bool) → leb m 1 ≡ t → (fresh m ≡ refused 1) × (x.refusal ≡ 1)
+    by : (t : Bool) → leb m 1 ≡ t → (fresh m ≡ refused 1) × (why x.refusal ≡ 1)
     by true e = absurd (n (q.good (leb-true m 1 e)).0)
     by false e = let h = leb-false m 1 e in (rw (lt-leb m 1 h), q.bad h)
+
+-- by the refusal that there is
+pub fresh_refused_by : (m : ℕ) (x : Fresh) (r : Refusal) → FreshPost m x → x.refusal ≡ Some r → fresh m ≡ refused (number r)
+fresh_refused_by m x r q e =
+    let f = fresh_refused m x q (λ z. positive r (sym (ap why e) ∙ z)) in
+    f.0 ∙ ap refused (sym f.1 ∙ ap why e)
 
 -- the record that a fresh reader has
 abbrev rec_of : Begun → Rec → Rec
 rec_of (made r) d = r
 rec_of (refused v) d = d
 
-pub fresh_good : (m : ℕ) (x : Fresh) → FreshPost m x → x.refusal ≡ 0 → (fresh m ≡ made (view x.reader)) × Good x.reader
+pub fresh_good : (m : ℕ) (x : Fresh) → FreshPost m x → why x.refusal ≡ 0 → (fresh m ≡ made (view x.reader)) × Good x.reader
 fresh_good m x q z = by (leb m 1) refl
   where
     by : (t : Bool) → leb m 1 ≡ t → (fresh m ≡ made (view x.reader)) × Good x.reader

@@ -7,8 +7,10 @@ use borrow.Author.Tests.{le-ltb}
 use lib.ListN.{length, take, drop, length-drop}
 use lib.Seq.{take_all, drop-drop}
 use Rattle.octets.proofs.PlacingLaws.{length_placed}
-use Rattle.octets.specs.declared.Written.{Written}
-use Rattle.octets.specs.Delivery.{written_of, filled_of, Counts}
+use Rattle.std.specs.Prelude.{Result, Ok, Err, IsOk}
+use Rattle.refusals.specs.declared.Refusal.{Refusal}
+use Rattle.refusals.proofs.NumberLaws.{positive}
+use Rattle.octets.specs.Delivery.{Written, accepted, written, written_of, filled_of, Counts}
 use Rattle.octets.proofs.DeliveryLaws.{writes}
 use Rattle.line.specs.Record.{Rec, Possible}
 use Rattle.record.specs.declared.Reader.{Reader}
@@ -84,10 +86,21 @@ called g s at b x b' h k w q f c =
     is : PartIs (segment (length b) (view g) d) x b b'
     is = part_is g d b x b' q' c h
 
--- a total that fits is written whole
-pub total_whole : (w : Written) (t b b' : List ℕ) → w ≡ written_of 0 t b → b' ≡ filled_of 0 t b → length t ≤ length b
-    → (w.length ≡ length t) × (take w.length b' ≡ t)
-total_whole w t b b' e f h =
-    let p = writes 0 t b refl h in
-    let n : w.length ≡ length t = ap (λ (v : Written). v.length) (e ∙ p.0) in
-    (n, read_back b b' t w.length n (f ∙ p.1) h)
+-- a total that fits, read back
+pub total_read : (t b b' : List ℕ) (n : ℕ) → n ≡ length t → b' ≡ filled_of 0 t b → length t ≤ length b → take n b' ≡ t
+total_read t b b' n e f h = read_back b b' t n e (f ∙ (writes 0 t b refl h).1) h
+
+-- what the room holds is delivered, and its length is the answer
+module _ (x : Result ℕ Refusal) (t b : List ℕ) (e : written x ≡ written_of 0 t b) (h : length t ≤ length b) where
+  delivers : x ≡ Ok (length t)
+  delivers = by x (e ∙ (writes 0 t b refl h).0)
+    where
+      by : (y : Result ℕ Refusal) → written y ≡ accepted (length t) → y ≡ Ok (length t)
+      by (Ok n) q = ap (λ (k : ℕ). Ok k) (ap (λ (w : Written). w.length) q)
+      by (Err r) q = absurd (positive r (ap (λ (w : Written). w.refusal) q))
+
+  pub delivered : IsOk x
+  delivered = subst⁻¹ (λ (y : Result ℕ Refusal). IsOk y) delivers refl
+
+  pub delivered_length : (n : ℕ) → x ≡ Ok n → n ≡ length t
+  delivered_length n q = ap (λ (w : Written). w.length) (sym (ap written q) ∙ e ∙ (writes 0 t b refl h).0)

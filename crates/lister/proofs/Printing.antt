@@ -16,6 +16,7 @@ use Rattle.record.specs.Posts.{FreshPost}
 use Rattle.listing.specs.Text.{total_of}
 use Rattle.lister.specs.declared.Part.{Part}
 use Rattle.lister.specs.Listing.{line_of, text, segment}
+use Rattle.refusals.specs.Numbers.{why}
 use Rattle.lister.specs.Posts.{PartPost, Good, Prints}
 use Rattle.lister.specs.Posts.Prints.{ended, full, part}
 use Rattle.lister.proofs.SegmentLaws.{segment_by, text_segment_more}
@@ -39,7 +40,7 @@ module _ (r : Reader) (s b : List ℕ) (x : Part) (b' : List ℕ) (q : PartPost 
       text_segment_more s m (length b) (view r)
       ∙ sym (λ i. part_lines r s b x b' q c g i ++ text (is.0 i) (drop (is.2 i) (s ++ m)))
 
-  last : (m : List ℕ) → x.refusal ≡ 3 → text (view x.reader) (drop x.taken (s ++ m)) ≡ total_of (view x.reader)
+  last : (m : List ℕ) → why x.refusal ≡ 3 → text (view x.reader) (drop x.taken (s ++ m)) ≡ total_of (view x.reader)
   last m z =
       let is = part_is r s b x b' q c g in
       (λ i. text (is.0 i) (drop (is.2 i) (s ++ m)))
@@ -54,7 +55,7 @@ prints (part {r = r} s m b x b' q c t) g =
     ap (λ (y : List ℕ). take x.length b' ++ y) (prints t (part_good r s b x b' q c g)) ∙ sym (whole r s b x b' q c g m)
 
 -- THE THEOREM: begun with a fresh reader, what is printed of the bytes l is their listing
-pub printed : (m : ℕ) (f : Fresh) → FreshPost m f → f.refusal ≡ 0 → {l out : List ℕ} → Prints f.reader l out
+pub printed : (m : ℕ) (f : Fresh) → FreshPost m f → why f.refusal ≡ 0 → {l out : List ℕ} → Prints f.reader l out
     → (r : Rec) → fresh m ≡ made r → out ≡ text r l
 printed m f q z {l} t r e =
     let w = fresh_good m f q z in

@@ -17,7 +17,11 @@ use Rattle.record.specs.declared.Fed.{Fed}
 use Rattle.record.specs.Posts.{FeedPost}
 use Rattle.listing.proofs.LineLaws.{placed_after}
 use Rattle.listing.specs.Text.{longest_event}
-use Rattle.lister.specs.Posts.{PartPost, event_number}
+use Rattle.record.specs.View.{told, event_number}
+use Rattle.std.specs.Prelude.{Option}
+use Rattle.refusals.specs.declared.Refusal.{Refusal}
+use Rattle.refusals.specs.Numbers.{why}
+use Rattle.lister.specs.Posts.{PartPost}
 use Rattle.lister.proofs.FeedLaws.{line_from, offered_in, PartOut, call_last, call_more, taken_fits, fed_some, room_left}
 
 -- at bytes were taken of s by the reader r₀, which is r now; to bytes were written into b₀, which is b now
@@ -48,13 +52,6 @@ part_offered s at room end e = ap (λ (k : ℕ). take (k - at) (drop at s)) e �
     by : (t : Bool) → take (cond t at (length s) - at) (drop at s) ≡ cond t [] (drop at s)
     by true = let z : at - at ≡ 0 = omega arith in ap (λ (k : ℕ). take k (drop at s)) z
     by false = take_all (length s - at) (drop at s) (rw length-drop (omega arith))
-
-pub offer_within : (s : List ℕ) (at room end : ℕ) → end ≡ cond (ltb room longest_event) at (length s) → at ≤ length s → (at ≤ end) × (end ≤ length s)
-offer_within s at room end e h = by (ltb room longest_event) e
-  where
-    by : (t : Bool) → end ≡ cond t at (length s) → (at ≤ end) × (end ≤ length s)
-    by true e = (omega arith, omega arith)
-    by false e = (omega arith, omega arith)
 
 pub offered_within : (room : ℕ) (s : List ℕ) → length (offered_in room s) ≤ length s
 offered_within room s = by (ltb room longest_event)
@@ -132,10 +129,10 @@ module _ {r₀ : Reader} {s b₀ : List ℕ} {r : Reader} {b : List ℕ} {at to 
       }
 
   -- nothing was taken
-  pub turn_last : x.taken ≡ 0
-      → PartPost r₀ s b₀ (record { reader = x.reader; refusal = event_number x.answer.event; taken = at; length = to }) b
-  turn_last z =
-      let v = event_number x.answer.event in
+  pub turn_last : (o : Option Refusal) → why o ≡ event_number (told x.answer.event) → x.taken ≡ 0
+      → PartPost r₀ s b₀ (record { reader = x.reader; refusal = o; taken = at; length = to }) b
+  turn_last o eo z =
+      let v = event_number (told x.answer.event) in
       let n : length (take to b) ≡ to = length-take-le to b w.room in
       let u : PartOut r₀ s (length b₀) x.reader v at (take to b) =
       subst (λ (l : List ℕ). PartOut r₀ s (length b₀) x.reader v at l) (append-nil (take to b))
@@ -144,10 +141,10 @@ module _ {r₀ : Reader} {s b₀ : List ℕ} {r : Reader} {b : List ℕ} {at to 
       let still : take to b ≡ [] → (to ≡ 0) × (b ≡ b₀) =
       λ e. (sym n ∙ ap length e, w.written ∙ ap (placed b₀ 0) e ∙ placed_nil b₀ 0) in
       record {
-        one = λ m. let a = u.one m in (a.0, a.1, a.2, (still a.3).0, (still a.3).1);
-        two = λ m f. let a = u.two m f in (a.0, a.1, a.2, (still a.3).0, (still a.3).1);
-        three = λ m p o f. absurd o;
-        rest = λ m p o.
-            let a = u.rest m p o in
-            (a.0, a.1, a.2, sym n ∙ ap length a.3, w.written ∙ ap (placed b₀ 0) a.3);
+        one = λ m. let a = u.one m in (a.0, eo ∙ a.1, a.2, (still a.3).0, (still a.3).1);
+        two = λ m f. let a = u.two m f in (a.0, eo ∙ a.1, a.2, (still a.3).0, (still a.3).1);
+        three = λ m p f h. absurd f;
+        rest = λ m p f.
+            let a = u.rest m p f in
+            (a.0, eo ∙ a.1, a.2, sym n ∙ ap length a.3, w.written ∙ ap (placed b₀ 0) a.3);
       }

@@ -3,8 +3,8 @@ use Rattle.std.specs.Prelude.{cond, List, [], ◌∷◌, ℕ, ◌+◌, ltb}
 use Rattle.line.specs.Table.{Event, by_event}
 use Rattle.line.specs.Record.{Rec, Fresh, limit, event_of, stepped}
 use Rattle.line.specs.Record.Fresh.{made, refused}
-use Rattle.record.specs.declared.Event.{Event as Shown}
-use Rattle.record.specs.declared.Event.TheVariants.{Nothing, Message, Refusal}
+use Rattle.record.specs.View.{Event as Shown}
+use Rattle.record.specs.View.Event.{Nothing, Message, Refusal}
 
 -- 1 of an event, 0 of none
 abbrev pub occurs : Event → ℕ

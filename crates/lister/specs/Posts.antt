@@ -1,12 +1,14 @@
 -- What the calls return and leave.
 use Rattle.std.specs.Prelude.{Bool, cond, List, [], ◌++◌, ◌≡◌, ℕ, ◌≤◌, length, take, drop}
+use Rattle.refusals.specs.Numbers.{why}
 use Rattle.octets.specs.Placing.{placed}
 use Rattle.octets.specs.Delivery.{Counts}
 use Rattle.line.specs.Record.{Asked, Possible}
 use Rattle.record.specs.declared.Reader.{Reader}
-use Rattle.record.specs.declared.Event.{Event}
-use Rattle.record.specs.declared.Event.TheVariants.{Nothing, Message, Refusal}
+use Rattle.record.specs.View.{Event}
+use Rattle.record.specs.View.Event.{Nothing, Message, Refusal}
 use Rattle.record.specs.View.{view}
+use Rattle.record.specs.declared.Event.TheVariants as Held
 use Rattle.record.specs.declared.InPlace.{InPlace}
 use Rattle.listing.specs.Text.{event_line, total_of}
 use Rattle.lister.specs.declared.Part.{Part}
@@ -17,7 +19,7 @@ use Rattle.lister.specs.Counting.{event_count}
 abbrev pub PartIs : Segment → Part → List ℕ → List ℕ → Type 0
 PartIs p x b b' =
     (view x.reader ≡ p.after)
-    × (x.refusal ≡ p.refusal)
+    × (why x.refusal ≡ p.refusal)
     × (x.taken ≡ p.taken)
     × (x.length ≡ length p.lines)
     × (b' ≡ placed b 0 p.lines)
@@ -25,7 +27,7 @@ PartIs p x b b' =
 -- a part of a listing: refused by 1 or 2, nothing is listed, and else a segment. Of question 3 the segment says where it stops
 abbrev pub PartPost : Reader → List ℕ → List ℕ → Part → List ℕ → Type 0
 PartPost r s b x b' =
-    Asked (view r) ⊥ (λ v. (x.reader ≡ r) × (x.refusal ≡ v) × (x.taken ≡ 0) × (x.length ≡ 0) × (b' ≡ b))
+    Asked (view r) ⊥ (λ v. (x.reader ≡ r) × (why x.refusal ≡ v) × (x.taken ≡ 0) × (x.length ≡ 0) × (b' ≡ b))
     (PartIs (segment (length b) (view r) s) x b b')
 
 -- how many events the bytes raise: refused by 1 or 2, none
@@ -36,25 +38,20 @@ CountPost r s n = Asked (view r) ⊥ (λ v. n ≡ 0) (n ≡ event_count (view r)
 -- total, once there is nothing to come or the next byte can't be counted
 pub data Prints : Reader → List ℕ → List ℕ → Type 0 where
   ended : {r : Reader} → Prints r [] (total_of (view r))
-  full : {r : Reader} (s m b : List ℕ) (x : Part) (b' : List ℕ) → PartPost r s b x b' → Counts x.length b' → x.refusal ≡ 3
+  full : {r : Reader} (s m b : List ℕ) (x : Part) (b' : List ℕ) → PartPost r s b x b' → Counts x.length b' → why x.refusal ≡ 3
       → Prints r (s ++ m) (take x.length b' ++ total_of (view x.reader))
   part : {r : Reader} {out : List ℕ} (s m b : List ℕ) (x : Part) (b' : List ℕ) → PartPost r s b x b' → Counts x.length b'
       → Prints x.reader (drop x.taken (s ++ m)) out → Prints r (s ++ m) (take x.length b' ++ out)
 
 -- of private functions: nothing is taken yet
 abbrev pub untaken : Reader → InPlace
-untaken r = record { head = r.head; latest = r.latest; event = Nothing; id = 0; len = 0; closed = 0; taken = 0 }
+untaken r = record { head = r.head; latest = r.latest; event = Held.Nothing; id = 0; len = 0; closed = 0; taken = 0 }
 
 -- a reader that questions 1 and 2 let pass
 abbrev pub Good : Reader → Type 0
 Good r = (r.head.mode ≤ 1) × Possible (view r)
 
--- the number of an event in memory, and its line
-abbrev pub event_number : Event → ℕ
-event_number Nothing = 0
-event_number Message = 0
-event_number (Refusal v) = v
-
+-- the line of an event in memory
 abbrev pub line_shown : ℕ → Event → ℕ → ℕ → List ℕ
 line_shown offset Nothing id n = []
 line_shown offset Message id n = event_line offset id 0 n

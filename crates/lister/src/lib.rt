@@ -3,23 +3,23 @@
 
 ghost use Rattle.std.specs.Prelude.{true, cond, ◌≡◌, ◌≤◌, ltb, length};
 ghost use Rattle.octets.specs.Placing.{placed};
-ghost use Rattle.octets.specs.Delivery.{written_of, filled_of, Counts};
+ghost use Rattle.octets.specs.Delivery.{written, written_of, filled_of, Counts};
 ghost use Rattle.line.specs.Record.{fresh};
-ghost use Rattle.record.specs.View.{view};
+ghost use Rattle.record.specs.View.{view, told};
 ghost use Rattle.listing.specs.Text.{longest_event};
 ghost use Rattle.lister.specs.Listing.{text, fresh_refusal, listing_of};
 ghost use Rattle.lister.specs.Counting.{occurs_shown, count_of};
-ghost use Rattle.lister.specs.Posts.{untaken, PartPost, CountPost, Good, event_number, line_shown, placed_if};
+ghost use Rattle.lister.specs.Posts.{untaken, PartPost, CountPost, Good, line_shown, placed_if};
 
 use listing::LONGEST_EVENT;
-use octets::Written;
 use record::{Count, Event, InPlace, Reader};
+use refusals::Refusal;
 
-// What a part of a listing took and wrote.
+// What a part of a listing took and wrote, and why it stopped, unless it was for want of bytes or of room.
 #[derive(Clone, Copy)]
 pub struct Part {
     pub reader: Reader,
-    pub refusal: u8,
+    pub refusal: Option<Refusal>,
     pub taken: usize,
     pub length: usize,
 }
@@ -28,11 +28,9 @@ pub struct Part {
 fn begin(r: Reader) -> InPlace
     ensures { result ≡ untaken r }
 {
-    let head = r.head;
-    let latest = r.latest;
     InPlace {
-        head: head,
-        latest: latest,
+        head: r.head,
+        latest: r.latest,
         event: Event::Nothing,
         id: 0,
         len: 0,
@@ -41,26 +39,11 @@ fn begin(r: Reader) -> InPlace
     }
 }
 
-// The number of an event.
-fn number(e: Event) -> u8
-    ensures { result ≡ event_number e }
-{
-    match e {
-        Event::Nothing => 0,
-        Event::Message => 0,
-        Event::Refusal(v) => v,
-    }
-}
-
 // Whether there is an event, as a number.
 fn raises(e: Event) -> u64
-    ensures { (result ≡ occurs_shown e) × (result ≤ 1) }
+    ensures { (result ≡ occurs_shown (told e)) × (result ≤ 1) }
 {
-    match e {
-        Event::Nothing => 0,
-        Event::Message => 1,
-        Event::Refusal(_) => 1,
-    }
+    u64::from(e != Event::Nothing)
 }
 
 // Where the bytes to offer end: there are none where the room may not hold a line.
@@ -73,19 +56,15 @@ fn offer(at: usize, n: usize, room: usize) -> usize
 // Writes the line of an event, if it is one, and returns its length.
 fn put_line(offset: Count, e: Event, id: u8, closed: Count, buf: &mut [u8]) -> usize
     requires { longest_event ≤ length buf.old }
-    ensures { (result ≡ length (line_shown offset e id closed))
-        × (buf.new ≡ placed buf.old 0 (line_shown offset e id closed))
+    ensures { (result ≡ length (line_shown offset (told e) id closed))
+        × (buf.new ≡ placed buf.old 0 (line_shown offset (told e) id closed))
         × (result ≤ length buf.old) }
 {
     match e {
         Event::Nothing => 0,
-        Event::Message => {
-            let w = listing::event_line(offset, id, 0, closed, buf);
-            return w.length;
-        }
-        Event::Refusal(v) => {
-            let w = listing::event_line(offset, id, v, closed, buf);
-            return w.length;
+        Event::Message | Event::Refusal(_) => {
+            let number = refusals::why(e.refusal());
+            listing::event_line(offset, id, number, closed, buf).unwrap()
         }
     }
 }
@@ -98,30 +77,26 @@ pub fn list_part(r: Reader, s: &[u8], buf: &mut [u8]) -> Part
 {
     let mut x = begin(r);
     let mut d = r.bytes;
-    let mut at: usize = 0;
-    let mut to: usize = 0;
+    let mut at = 0;
+    let mut to = 0;
     loop {
         let end = offer(at, s.len(), buf.len() - to);
         x = reader::feed_in_place(x.head, x.latest, &mut d, &s[at..end]);
-        let e = x.event;
         if x.taken == 0 {
-            let head = x.head;
-            let latest = x.latest;
-            let last = Reader {
-                head: head,
-                latest: latest,
-                bytes: d,
-            };
             return Part {
-                reader: last,
-                refusal: number(e),
+                reader: Reader {
+                    head: x.head,
+                    latest: x.latest,
+                    bytes: d,
+                },
+                refusal: x.event.refusal(),
                 taken: at,
                 length: to,
             };
         }
-        at = at + x.taken;
+        at += x.taken;
         let offset = x.head.fed - 1;
-        to = to + put_line(offset, e, x.id, x.closed, &mut buf[to..]);
+        to += put_line(offset, x.event, x.id, x.closed, &mut buf[to..]);
     }
 }
 
@@ -131,16 +106,15 @@ fn count(r: Reader, s: &[u8]) -> u64
 {
     let mut x = begin(r);
     let mut d = r.bytes;
-    let mut at: usize = 0;
-    let mut events: u64 = 0;
+    let mut rest = s;
+    let mut events = 0;
     loop {
-        x = reader::feed_in_place(x.head, x.latest, &mut d, &s[at..]);
+        x = reader::feed_in_place(x.head, x.latest, &mut d, rest);
         if x.taken == 0 {
             return events;
         }
-        at = at + x.taken;
-        let e = x.event;
-        events = events + raises(e);
+        rest = &rest[x.taken..];
+        events += raises(x.event);
     }
 }
 
@@ -149,80 +123,61 @@ pub fn count_events(mode: u8, s: &[u8]) -> u64
     ensures { result ≡ count_of (fresh mode) s.now }
 {
     let f = Reader::fresh(mode);
-    if f.refusal != 0 {
+    if f.refusal.is_some() {
         return 0;
     }
-    let r = f.reader;
-    count(r, s)
+    count(f.reader, s)
 }
 
 // Puts bytes into the buffer, where they are to be written.
 fn put_if(write: bool, src: &[u8], buf: &mut [u8], at: usize)
     ensures { buf.new ≡ placed_if write buf.old at src.now }
 {
-    if !write {
-        return;
+    if write {
+        octets::put(src, buf, at);
     }
-    octets::put(src, buf, at);
 }
 
 // Lists a slice part by part: its length, if the buffer has room for it; and where it is to be written, into the buffer.
-fn list_parts(r: Reader, s: &[u8], buf: &mut [u8], write: bool) -> Written
+fn list_parts(r: Reader, s: &[u8], buf: &mut [u8], write: bool) -> Result<usize, Refusal>
     requires { Good r × (write ≡ true → length (text (view r) s.now) ≤ length buf.old) }
-    ensures { (result ≡ written_of 0 (text (view r) s.now) buf.old)
+    ensures { (written result ≡ written_of 0 (text (view r) s.now) buf.old)
         × (buf.new ≡ placed_if write buf.old 0 (text (view r) s.now)) }
 {
     let mut g = r;
     let mut lines = [0u8; 4096];
-    let mut at: usize = 0;
-    let mut to: usize = 0;
+    let mut at = 0;
+    let mut to = 0;
     loop {
         let p = list_part(g, &s[at..], &mut lines);
         let n = p.length;
         if buf.len() - to < n {
-            return Written {
-                refusal: refusals::BUFFER,
-                length: 0,
-            };
+            return Err(Refusal::Buffer);
         }
         put_if(write, &lines[..n], buf, to);
-        to = to + n;
+        to += n;
         g = p.reader;
         if p.taken == 0 {
-            let w = listing::list_total(g, &mut lines);
-            let m = w.length;
+            let m = listing::list_total(g, &mut lines).unwrap();
             if buf.len() - to < m {
-                return Written {
-                    refusal: refusals::BUFFER,
-                    length: 0,
-                };
+                return Err(Refusal::Buffer);
             }
             put_if(write, &lines[..m], buf, to);
-            return Written {
-                refusal: 0,
-                length: to + m,
-            };
+            return Ok(to + m);
         }
-        at = at + p.taken;
+        at += p.taken;
     }
 }
 
 // Writes the listing of a slice into the buffer, or says why not. It is measured first: a buffer without room stays as it was.
-pub fn list(mode: u8, s: &[u8], buf: &mut [u8]) -> Written
-    ensures { (result ≡ written_of (fresh_refusal (fresh mode)) (listing_of (fresh mode) s.now) buf.old)
+pub fn list(mode: u8, s: &[u8], buf: &mut [u8]) -> Result<usize, Refusal>
+    ensures { (written result ≡ written_of (fresh_refusal (fresh mode)) (listing_of (fresh mode) s.now) buf.old)
         × (buf.new ≡ filled_of (fresh_refusal (fresh mode)) (listing_of (fresh mode) s.now) buf.old) }
 {
     let f = Reader::fresh(mode);
-    if f.refusal != 0 {
-        return Written {
-            refusal: f.refusal,
-            length: 0,
-        };
+    if let Some(refusal) = f.refusal {
+        return Err(refusal);
     }
-    let r = f.reader;
-    let w = list_parts(r, s, buf, false);
-    if w.refusal != 0 {
-        return w;
-    }
-    list_parts(r, s, buf, true)
+    list_parts(f.reader, s, buf, false)?;
+    list_parts(f.reader, s, buf, true)
 }

@@ -12,7 +12,7 @@ use lib.ListN.{length, take, length-append}
 use lib.Seq.{length-take-le}
 use Rattle.octets.specs.Placing.{placed}
 use Rattle.octets.proofs.PlacingLaws.{placed_more, length_placed}
-use Rattle.octets.specs.declared.Written.{Written}
+use Rattle.octets.specs.Delivery.{Written}
 use Rattle.octets.specs.Delivery.{accepted, written_of, filled_of, Counts}
 use Rattle.octets.proofs.DeliveryLaws.{placed_back, short, writes}
 use Rattle.listing.specs.Text.{space, newline, decimal, hexadecimal, decimals, event_line, total_line, count_digits, longest_event, longest_total}
@@ -80,7 +80,7 @@ module _ (offset id number closed : ℕ) where
         decimal_short offset ho,
         ap length (decimals_cons number (closed ∷ [])),
         length-append (space ∷ decimal number) (decimals (closed ∷ [])),
-        decimal_length 2 number (omega arith),
+        decimal_length 3 number (omega arith) (omega arith) (omega arith),
         decimals_more closed [] hc,
         ap length decimals_nil,
       )

@@ -15,179 +15,140 @@
 // fills a buffer, that follows, of Z before the call, up to four bytes past the room.
 #![tactic(auto)]
 
-use octets::Written;
+use answering::print_answer;
+use listing::Totals;
 use record::{Count, Head, Reader};
+use refusals::Refusal;
+use std::io;
 
-fn number(n: u64) {
-    io::write_all(1, b" ");
-    io::print_decimal(1, n);
+// The five numbers of a line.
+fn given(s: &[u8]) -> [Count; 5] {
+    [5, 13, 21, 29, 37].map(|at| numbers::u64_at(s, at))
 }
 
-fn octet(n: u8) {
-    number(n as u64);
-}
-
-fn size(n: usize) {
-    number(n as u64);
-}
-
-fn answer(w: Written) {
-    octet(w.refusal);
-    size(w.length);
-}
-
-// The buffer's first n bytes, as they are.
-fn text(buf: &[u8], n: usize) {
-    io::write_all(1, b"\n");
-    if n <= buf.len() {
-        io::write_all(1, &buf[0..n]);
-    }
-}
-
-// A number of the line: 0 is the first.
-fn given(s: &[u8], i: usize) -> Count {
-    if 4 < i {
-        return 0;
-    }
-    numbers::u64_at(s, 5 + 8 * i)
-}
-
-fn run_event(s: &[u8], buf: &mut [u8]) {
-    let w = listing::event_line(
-        given(s, 0),
+fn event_line(s: &[u8], buf: &mut [u8]) -> Result<usize, Refusal> {
+    let [offset, closed, ..] = given(s);
+    listing::event_line(
+        offset,
         octets::byte_at(s, 2),
         octets::byte_at(s, 1),
-        given(s, 1),
+        closed,
         buf,
-    );
-    answer(w);
+    )
 }
 
-fn run_total(s: &[u8], buf: &mut [u8]) {
-    let w = listing::total_line(
-        given(s, 0),
-        given(s, 1),
-        given(s, 2),
-        given(s, 3),
-        given(s, 4),
-        buf,
-    );
-    answer(w);
+fn total_line(s: &[u8], buf: &mut [u8]) -> Result<usize, Refusal> {
+    let [fed, accepted, refused, outside, pending] = given(s);
+    let totals = Totals {
+        fed,
+        accepted,
+        refused,
+        outside,
+        pending,
+    };
+    listing::total_line(totals, buf)
 }
 
-fn head_of(s: &[u8]) -> Head {
-    Head {
-        mode: octets::byte_at(s, 1),
+// A reader outside a frame, with the counts of the line.
+fn reader_of(s: &[u8]) -> Reader {
+    let [fed, accepted, refused, outside, pending] = given(s);
+    let mode = octets::byte_at(s, 1);
+    let head = Head {
+        mode,
         place: 0,
         id: 0,
         c1: 0,
         c2: 0,
         len: 0,
-        fed: given(s, 0),
-        accepted: given(s, 1),
-        refused: given(s, 2),
-        outside: given(s, 3),
-        pending: given(s, 4),
-    }
-}
-
-// A reader outside a frame, with the counts of the line.
-fn reader_of(s: &[u8]) -> Reader {
-    let f = Reader::fresh(octets::byte_at(s, 1));
-    let head = head_of(s);
-    let latest = f.reader.latest;
-    let bytes = f.reader.bytes;
+        fed,
+        accepted,
+        refused,
+        outside,
+        pending,
+    };
     Reader {
-        head: head,
-        latest: latest,
-        bytes: bytes,
+        head,
+        ..Reader::fresh(mode).reader
     }
 }
 
-fn counts(h: Head) {
-    number(h.fed);
-    number(h.accepted);
-    number(h.refused);
-    number(h.outside);
-    number(h.pending);
+fn print_counts(rt: &impl Print, h: Head) -> io::Result<()> {
+    print!(rt;
+        " {} {} {} {} {}",
+        h.fed, h.accepted, h.refused, h.outside, h.pending
+    )
 }
 
-fn run_part(s: &[u8], buf: &mut [u8]) {
-    if s.len() < 45 {
-        return;
-    }
-    let p = lister::list_part(reader_of(s), &s[45..], buf);
-    octet(p.refusal);
-    size(p.taken);
-    size(p.length);
-    counts(p.reader.head);
+fn run_part(rt: &impl Print, s: &[u8], buf: &mut [u8]) -> io::Result<()> {
+    let Some(bytes) = s.get(45..) else {
+        return Ok(());
+    };
+    let part = lister::list_part(reader_of(s), bytes, buf);
+    let refusal = refusals::why(part.refusal);
+    print!(rt; " {} {} {}", refusal, part.taken, part.length)?;
+    print_counts(rt, part.reader.head)
 }
 
-fn run_count(mode: u8, d: &[u8]) {
-    number(lister::count_events(mode, d));
-    number(export::binr_count(mode, d));
+fn run_count(rt: &impl Print, mode: u8, d: &[u8]) -> io::Result<()> {
+    print!(rt;
+        " {} {}",
+        lister::count_events(mode, d),
+        export::binr_count(mode, d)
+    )
 }
 
-fn run_data(call: u8, mode: u8, id: u8, d: &[u8], buf: &mut [u8]) {
+fn run_data(
+    rt: &impl Print,
+    call: u8,
+    mode: u8,
+    id: u8,
+    d: &[u8],
+    buf: &mut [u8],
+) -> io::Result<()> {
     match call {
-        1 => answer(lister::list(mode, d, buf)),
-        2 => number(export::binr_list(mode, d, buf)),
-        3 => number(export::binr_write(mode, id, d, buf)),
-        4 => octet(export::binr_judge(id, d)),
-        _ => run_count(mode, d),
+        1 => print_answer(rt, &lister::list(mode, d, buf)),
+        2 => print!(rt; " {}", export::binr_list(mode, d, buf)),
+        3 => print!(rt; " {}", export::binr_write(mode, id, d, buf)),
+        4 => print!(rt; " {}", export::binr_judge(id, d)),
+        _ => run_count(rt, mode, d),
     }
 }
 
-fn run(s: &[u8], buf: &mut [u8]) {
-    if s.len() < 5 {
-        return;
-    }
-    match s[0] {
-        6 => run_event(s, buf),
-        7 => run_total(s, buf),
-        8 => answer(listing::list_total(reader_of(s), buf)),
-        9 => run_part(s, buf),
-        _ => run_data(s[0], s[1], s[2], &s[5..], buf),
+fn run(rt: &impl Print, s: &[u8], buf: &mut [u8]) -> io::Result<()> {
+    let [call, mode, id, _, _, d @ ..] = s else {
+        return Ok(());
+    };
+    match *call {
+        6 => print_answer(rt, &event_line(s, buf)),
+        7 => print_answer(rt, &total_line(s, buf)),
+        8 => print_answer(rt, &listing::list_total(reader_of(s), buf)),
+        9 => run_part(rt, s, buf),
+        _ => run_data(rt, *call, *mode, *id, d, buf),
     }
 }
 
-fn run_in(s: &[u8], room: usize, buf: &mut [u8]) {
-    if buf.len() < room {
-        return;
+// The buffer's first n bytes, as they are.
+fn print_text(rt: &impl Print, buf: &[u8], n: usize) -> io::Result<()> {
+    println!(rt)?;
+    match buf.get(..n) {
+        Some(text) => rt.write_all(text),
+        None => Ok(()),
     }
-    run(s, &mut buf[0..room]);
-    text(buf, room + 4);
 }
 
-fn call(s: &[u8]) {
+fn call(rt: &impl Print, s: &[u8]) -> io::Result<()> {
+    let room = usize::from(numbers::u16_at(s, 3));
     let mut buf = [b'Z'; 8192];
-    io::print_hex(1, octets::byte_at(s, 0) as u64, 2);
-    run_in(s, numbers::u16_at(s, 3) as usize, &mut buf);
-    io::write_all(1, b"\n");
+    print!(rt; "{:02x}", octets::byte_at(s, 0))?;
+    if let Some(lent) = buf.get_mut(..room) {
+        run(rt, s, lent)?;
+        print_text(rt, &buf, room + 4)?;
+    }
+    println!(rt)
 }
 
-fn line(s: &[u8]) {
-    if octets::byte_at(s, 0) == b'#' {
-        io::write_all(1, s);
-        io::write_all(1, b"\n");
-        return;
-    }
+fn main(rt: HostRuntime) -> io::Result<()> {
+    let mut input = [0u8; 65536];
     let mut bytes = [0u8; 4096];
-    let n = hexlines::parse(s, &mut bytes);
-    call(&bytes[0..n]);
-}
-
-fn main() {
-    let mut buf = io::large_buffer();
-    let n = io::read_full(0, &mut buf);
-    let s = &buf[..n];
-    let mut at: usize = 0;
-    while at < s.len() {
-        let end = hexlines::line_end(s, at);
-        line(&s[at..end]);
-        if s.len() <= end {
-            return;
-        }
-        at = end + 1;
-    }
+    answering::each_call(&rt, &mut input, &mut bytes, |s| call(&rt, s))
 }

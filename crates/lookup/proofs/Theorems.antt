@@ -8,11 +8,10 @@ use native.Mathlib.Omega.{arith}
 use borrow.Author.Tests.{eqb-true, eqb-false, eq-eqb, ltb-true, ltb-false}
 use lib.Dec.{eqb, ltb}
 use lib.ListN.{length}
+use Rattle.std.specs.Prelude.{Option, Some, None, Result, Ok, Err}
 use Rattle.ranges.proofs.CountLaws.{never}
 use Rattle.kinds.specs.Kinds.{content}
 use Rattle.kinds.proofs.RowLaws.{refused_52}
-use Rattle.lookup.specs.declared.Found.{Found}
-use Rattle.lookup.specs.declared.Found.TheVariants.{At, Nothing, Refused}
 use Rattle.lookup.specs.Lookup.{entry_at, has, first_from, found_in}
 use Rattle.lookup.specs.Meaning.{Holds, Earliest, Absent, Finds}
 use Rattle.lookup.proofs.SearchLaws.{accepted, refused, Given, given}
@@ -30,11 +29,10 @@ module _ (d : List ℕ) (s n : ℕ) where
       ((and-eq-true_iff (eqb (entry_at d i).system s) (eqb (entry_at d i).number n)).1 (eq-eqb _ _ h.has_system, eq-eqb _ _ h.has_number))
       f
 
-  by_search : content 0x52 d ≡ 0 → (r : Found) → Given (has d s n) 0 (length d / 7) r → Finds d s n r
-  by_search e (At i) g =
+  by_search : content 0x52 d ≡ 0 → (r : Option ℕ) → Given (has d s n) 0 (length d / 7) r → Finds d s n (Ok r)
+  by_search e (Some i) g =
       (e, record { holds = holds i (omega (arith, g.1)) g.2; no_lower = λ j l. lacks j (g.3 j (omega arith) l) })
-  by_search e Nothing g = (e, λ i h. lacks i (g i (omega arith) (omega (arith, h.within))) h)
-  by_search e (Refused v) g = absurd g
+  by_search e None g = (e, λ i h. lacks i (g i (omega arith) (omega (arith, h.within))) h)
 
   finds : Finds d s n (found_in d s n)
   finds = go (eqb (content 0x52 d) 0) refl
@@ -56,31 +54,31 @@ module _ (d : List ℕ) (s n : ℕ) where
       go false p false q = let a = ltb-false i j p in let b = ltb-false j i q in omega arith
 
   -- the three cases exclude each other, and each leaves one answer
-  same : (r q : Found) → Finds d s n r → Finds d s n q → r ≡ q
-  same (At i) (At j) x y = ap At (one_index i j x.1 y.1)
-  same (At i) Nothing x y = absurd (y.1 i x.1.holds)
-  same (At i) (Refused v) x y = absurd (y.1 (sym y.0 ∙ x.0))
-  same Nothing (At j) x y = absurd (x.1 j y.1.holds)
-  same Nothing Nothing x y = refl
-  same Nothing (Refused v) x y = absurd (y.1 (sym y.0 ∙ x.0))
-  same (Refused v) (At j) x y = absurd (x.1 (sym x.0 ∙ y.0))
-  same (Refused v) Nothing x y = absurd (x.1 (sym x.0 ∙ y.0))
-  same (Refused v) (Refused w) x y = ap Refused (sym x.0 ∙ y.0)
+  same : (r q : Result (Option ℕ) ℕ) → Finds d s n r → Finds d s n q → r ≡ q
+  same (Ok (Some i)) (Ok (Some j)) x y = ap (λ k. Ok (Some k)) (one_index i j x.1 y.1)
+  same (Ok (Some i)) (Ok None) x y = absurd (y.1 i x.1.holds)
+  same (Ok (Some i)) (Err v) x y = absurd (y.1 (sym y.0 ∙ x.0))
+  same (Ok None) (Ok (Some j)) x y = absurd (x.1 j y.1.holds)
+  same (Ok None) (Ok None) x y = refl
+  same (Ok None) (Err v) x y = absurd (y.1 (sym y.0 ∙ x.0))
+  same (Err v) (Ok (Some j)) x y = absurd (x.1 (sym x.0 ∙ y.0))
+  same (Err v) (Ok None) x y = absurd (x.1 (sym x.0 ∙ y.0))
+  same (Err v) (Err w) x y = ap Err (sym x.0 ∙ y.0)
 
   -- lookup gives what the paper's rule asks for, and nothing else meets that rule
-  pub exactly : (r : Found) → found_in d s n ≡ r ↔ Finds d s n r
+  pub exactly : (r : Result (Option ℕ) ℕ) → found_in d s n ≡ r ↔ Finds d s n r
   exactly r = (λ e. subst (Finds d s n) e finds, λ f. same (found_in d s n) r finds f)
 
   -- an index found has both, and no lower one does
-  pub earliest : (i : ℕ) → found_in d s n ≡ At i ↔ (content 0x52 d ≡ 0) × Earliest d s n i
-  earliest i = exactly (At i)
+  pub earliest : (i : ℕ) → found_in d s n ≡ Ok (Some i) ↔ (content 0x52 d ≡ 0) × Earliest d s n i
+  earliest i = exactly (Ok (Some i))
 
   -- none exactly when no entry has both
-  pub none_exactly : found_in d s n ≡ Nothing ↔ (content 0x52 d ≡ 0) × Absent d s n
-  none_exactly = exactly Nothing
+  pub none_exactly : found_in d s n ≡ Ok None ↔ (content 0x52 d ≡ 0) × Absent d s n
+  none_exactly = exactly (Ok None)
 
   -- a refusal is the data's, by 11 or 12
-  pub refusal : (v : ℕ) → found_in d s n ≡ Refused v → (content 0x52 d ≡ v) × ((v ≡ 11) ⊎ (v ≡ 12))
+  pub refusal : (v : ℕ) → found_in d s n ≡ Err v → (content 0x52 d ≡ v) × ((v ≡ 11) ⊎ (v ≡ 12))
   refusal v e =
-      let f = (exactly (Refused v)).0 e in
+      let f = (exactly (Err v)).0 e in
       (f.0, subst (λ w. (w ≡ 11) ⊎ (w ≡ 12)) f.0 (refused_52 d (λ z. f.1 (sym f.0 ∙ z))))

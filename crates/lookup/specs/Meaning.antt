@@ -1,8 +1,6 @@
 -- What the theorems about lookup say (proofs/Theorems.antt).
-use Rattle.std.specs.Prelude.{◌≡◌, List, ℕ, ◌/◌, ◌<◌, length}
+use Rattle.std.specs.Prelude.{◌≡◌, List, ℕ, ◌/◌, ◌<◌, length, Option, Some, None, Result, Ok, Err}
 use Rattle.kinds.specs.Kinds.{content}
-use Rattle.lookup.specs.declared.Found.{Found}
-use Rattle.lookup.specs.declared.Found.TheVariants.{At, Nothing, Refused}
 use Rattle.lookup.specs.Lookup.{entry_at}
 
 -- there is an entry at the index, and it has both
@@ -20,8 +18,8 @@ pub record Earliest (d : List ℕ) (s n i : ℕ) : Type 0 where
 abbrev pub Absent : List ℕ → ℕ → ℕ → Type 0
 Absent d s n = (i : ℕ) → Holds d s n i → ⊥
 
--- the paper's number and index for each case of the code's enum: 0 and the earliest, 0 and none, or the refusal alone
-abbrev pub Finds : List ℕ → ℕ → ℕ → Found → Type 0
-Finds d s n (At i) = (content 0x52 d ≡ 0) × Earliest d s n i
-Finds d s n Nothing = (content 0x52 d ≡ 0) × Absent d s n
-Finds d s n (Refused v) = (content 0x52 d ≡ v) × (v ≡ 0 → ⊥)
+-- the paper's number and index for each answer: 0 and the earliest, 0 and none, or the refusal alone
+abbrev pub Finds : List ℕ → ℕ → ℕ → Result (Option ℕ) ℕ → Type 0
+Finds d s n (Ok (Some i)) = (content 0x52 d ≡ 0) × Earliest d s n i
+Finds d s n (Ok None) = (content 0x52 d ≡ 0) × Absent d s n
+Finds d s n (Err v) = (content 0x52 d ≡ v) × (v ≡ 0 → ⊥)

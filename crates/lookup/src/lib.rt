@@ -2,32 +2,18 @@
 #![tactic(auto)]
 
 ghost use Rattle.std.specs.Prelude.{◌≡◌};
+ghost use Rattle.refusals.specs.Numbers.{numbered};
 ghost use Rattle.lookup.specs.Lookup.{found_in};
 
-// What lookup gives: an entry's index, no entry, or why the data fails.
-#[derive(Clone, Copy)]
-pub enum Found {
-    At(usize),
-    Nothing,
-    Refused(u8),
-}
+use refusals::Refusal;
 
-// The first entry of 52h data that has both the system and the number.
-pub fn find_satellite(body: &[u8], system: u8, number: u8) -> Found
-    ensures { result ≡ found_in body.now system number }
+// The index of the first entry of 52h data that has both the system and the number, if any has.
+pub fn find_satellite(body: &[u8], system: u8, number: u8) -> Result<Option<usize>, Refusal>
+    ensures { numbered result ≡ found_in body.now system number }
 {
-    let refusal = kinds::content(0x52, body);
-    if refusal != 0 {
-        return Found::Refused(refusal);
-    }
-    let n = body.len() / 7;
-    let mut i: usize = 0;
-    while i < n {
-        let at = 7 * i;
-        if (octets::byte_at(body, at) == system) & (octets::byte_at(body, at + 1) == number) {
-            return Found::At(i);
-        }
-        i += 1;
-    }
-    Found::Nothing
+    kinds::content(0x52, body)?;
+    let first = body
+        .chunks_exact(7)
+        .position(|entry| entry[0] == system && entry[1] == number);
+    Ok(first)
 }

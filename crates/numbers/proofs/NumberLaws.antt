@@ -2,13 +2,15 @@
 use mathlib.Core.Bool.{Bool, true, false}
 use mathlib.Core.Path.{◌≡◌, refl, sym, ap, ◌∙◌}
 use mathlib.Core.List.{List, [], ◌∷◌}
-use Prim.Native.Nat.{ℕ, zero, suc, ◌+◌, ◌-◌, ◌*◌, ◌/◌, ◌%◌, ◌^◌, ◌≤◌, ◌<◌}
-use native.Mathlib.Nat.{pow-suc, add-suc, zero-lt-suc, pow-le-pow_right}
+use Prim.Native.Nat.{ℕ, zero, suc, ◌+◌, ◌*◌, ◌/◌, ◌%◌, ◌^◌, ◌≤◌, ◌<◌}
+use native.Mathlib.Nat.{pow-suc, zero-lt-suc}
 use native.Mathlib.Omega.{arith}
 use borrow.Author.Tests.{le-leb, lt-leb, leb-true, leb-false}
 use lib.Dec.{leb}
-use lib.ListN.{length, take, drop, get_or, length-drop}
+use lib.ListN.{length, take, drop, get_or, replicate, length-drop}
 use lib.Seq.{drop-cons, length-take-le, get_or-take, get_or-drop}
+use Rattle.std.specs.Int.{byte_worth, sum_through}
+use Rattle.std.proofs.lemmas.List.{take_all}
 use Rattle.numbers.specs.Number.{number_of, bytes_of, number_at}
 
 pub length_bytes : (n x : ℕ) → length (bytes_of n x) ≡ n
@@ -80,20 +82,29 @@ number_one s at = by (leb (at + 1) (length s)) refl
         let h = leb-false (at + 1) (length s) e in
         number_out s at 1 h ∙ sym (past s at (omega arith))
 
--- one byte more in front of those from k on
-pub number_back : (s : List ℕ) (at n k : ℕ) → 0 < k → k ≤ n → at + n ≤ length s
-    → number_of (take (n - (k - 1)) (drop (at + (k - 1)) s)) ≡ number_of (take (n - k) (drop (at + k) s)) * 256 + get_or s (at + (k - 1)) 0
+-- no bytes but zeros are no number but 0
+pub number_zeros : (n : ℕ) → number_of (replicate n 0) ≡ 0
 unfolding number_of
-number_back s at n zero h hk hs = absurd (omega arith)
-number_back s at n (suc j) h hk hs =
-    let e : suc j - 1 ≡ j = omega arith in
-    let m : n - j ≡ suc (n - suc j) = omega arith in
-    let l : at + j < length s = omega arith in
-    rw (e, m, drop-cons s (at + j) 0 l, add-suc) (omega arith)
+number_zeros zero = refl
+number_zeros (suc n) = rw (number_zeros n) refl
 
-pub pow_back : (n k : ℕ) → 0 < k → k ≤ n → 256 ^ (n - (k - 1)) ≡ 256 ^ (n - k) * 256
-pow_back n k h hk = let m : n - (k - 1) ≡ suc (n - k) = omega arith in rw (m, pow-suc)
+-- one byte more behind the first n
+number_more : (n : ℕ) (s : List ℕ) → number_of (take (suc n) s) ≡ number_of (take n s) + get_or s n 0 * 256 ^ n
+unfolding number_of
+number_more zero [] = omega arith
+number_more (suc n) [] = omega arith
+number_more zero (b ∷ s) = omega arith
+number_more (suc n) (b ∷ s) = rw pow-suc (omega (arith, number_more n s))
 
--- fewer than eight bytes leave room for one more
-pub pow_7 : (n k : ℕ) → 0 < k → n ≤ 8 → 256 ^ (n - k) ≤ 256 ^ 7
-pow_7 n k h hn = let l : n - k ≤ 7 = omega arith in pow-le-pow_right {n = 256} (omega arith) l
+number_first : (s : List ℕ) → get_or s 0 0 ≡ number_of (take 1 s)
+unfolding number_of
+number_first [] = refl
+number_first (b ∷ s) = omega arith
+
+-- the language's own reading of as many bytes
+pub read_through : (n : ℕ) (s : List ℕ) → length s ≡ suc n → sum_through (λ i. byte_worth i (get_or s i 0)) n ≡ number_of s
+read_through n s h = through n ∙ ap number_of (take_all (suc n) s (omega arith))
+  where
+    through : (m : ℕ) → sum_through (λ i. byte_worth i (get_or s i 0)) m ≡ number_of (take (suc m) s)
+    through zero = let e : get_or s 0 0 ≡ number_of (take 1 s) = number_first s in e
+    through (suc m) = rw (through m) (sym (number_more (suc m) s))

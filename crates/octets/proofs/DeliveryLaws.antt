@@ -1,6 +1,6 @@
 -- Laws of what a call answers that writes, and of what it leaves in the buffer, a pair for each case: what callers use in place of
 -- their text.
-use mathlib.Core.Path.{◌≡◌, refl, ap, ◌∙◌}
+use mathlib.Core.Path.{◌≡◌, refl, sym, ap, ◌∙◌}
 use mathlib.Core.Bool.{Bool, true, false, cond}
 use mathlib.Core.List.{List}
 use Prim.Native.Nat.{ℕ, ◌≤◌, ◌<◌}
@@ -9,10 +9,12 @@ use borrow.Author.Tests.{eq-eqb, ne_eqb, lt-ltb, le-ltb, eqb-true, eqb-false, lt
 use lib.Dec.{eqb, ltb}
 use lib.ListN.{length, take, drop}
 use lib.Seq.{take_at}
+use Rattle.refusals.specs.declared.Refusal.{Refusal}
+use Rattle.refusals.specs.Numbers.{number}
+use Rattle.refusals.proofs.NumberLaws.{positive}
 use Rattle.octets.specs.Placing.{placed}
 use Rattle.octets.proofs.PlacingLaws.{placed_start, placed_out}
-use Rattle.octets.specs.declared.Written.{Written}
-use Rattle.octets.specs.Delivery.{refused, accepted, written_of, filled_of}
+use Rattle.octets.specs.Delivery.{Written, refused, accepted, written_of, filled_of}
 
 -- bytes placed at the start, read back
 pub placed_back : (b t : List ℕ) → length t ≤ length b → take (length t) (placed b 0 t) ≡ t
@@ -28,6 +30,12 @@ module _ (v : ℕ) (t b : List ℕ) where
   refused_by_lem w e n =
       let r = refuses (λ z. n (rw e at z)) in
       (r.0 ∙ ap refused e, r.1)
+
+  -- refused before by r, whose number v is
+  pub refused_before : (r : Refusal) → number r ≡ v → (refused (number r) ≡ written_of v t b) × (b ≡ filled_of v t b)
+  refused_before r e =
+      let f = refuses (λ z. positive r (e ∙ z)) in
+      (ap refused e ∙ sym f.0, sym f.1)
 
   -- the buffer is too short
   pub short : v ≡ 0 → length b < length t → (written_of v t b ≡ refused 13) × (filled_of v t b ≡ b)

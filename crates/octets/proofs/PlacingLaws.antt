@@ -2,11 +2,12 @@
 use mathlib.Core.Path.{◌≡◌, refl, sym, ap, ◌∙◌}
 use mathlib.Core.Bool.{Bool, true, false}
 use mathlib.Core.List.{List, [], ◌∷◌, ◌++◌, append_assoc, append-nil}
-use Prim.Native.Nat.{ℕ, ◌+◌, ◌≤◌, ◌<◌}
+use Prim.Native.Nat.{ℕ, ◌+◌, ◌-◌, ◌≤◌, ◌<◌}
 use native.Mathlib.Nat.{add-zero, add_assoc, zero-add}
 use native.Mathlib.Numerals.{add-one}
 use native.Mathlib.Omega.{arith}
 use borrow.Author.Tests.{le-leb, lt-leb, leb-true, leb-false}
+use borrow.Rule.Slice.PartMut.{put_mid, Post-is}
 use lib.Dec.{leb}
 use lib.ListN.{length, take, drop, set, length-append, length-drop, take-append-drop}
 use lib.Seq.{take_at, drop-append-add, drop-drop, drop-length, length-take-le, set_split}
@@ -20,6 +21,11 @@ placed_fits d at s h = rw (le-leb (at + length s) (length d) h)
 pub placed_out : (d : List ℕ) (at : ℕ) (s : List ℕ) → length d < at + length s → placed d at s ≡ d
 unfolding placed
 placed_out d at s h = rw (lt-leb (at + length s) (length d) h)
+
+-- a part of d, replaced by as many bytes
+pub placed_part : (d : List ℕ) (at : ℕ) (s : List ℕ) → at + length s ≤ length d → put_mid at (at + length s - at) d s ≡ placed d at s
+placed_part d at s h =
+    ap (λ (l : List ℕ). take at d ++ (s ++ l)) (Post-is at (at + length s) d (omega arith)) ∙ sym (placed_fits d at s h)
 
 pub length_placed : (d : List ℕ) (at : ℕ) (s : List ℕ) → length (placed d at s) ≡ length d
 length_placed d at s = go (leb (at + length s) (length d)) refl

@@ -4,14 +4,9 @@
 ghost use Rattle.std.specs.Prelude.{◌≡◌, ◌+◌, leb, length};
 ghost use Rattle.octets.specs.Bytes.{byte};
 ghost use Rattle.octets.specs.Placing.{fits, placed};
-ghost use Rattle.octets.specs.Delivery.{written_of, filled_of};
+ghost use Rattle.octets.specs.Delivery.{written, written_of, filled_of};
 
-// What writing into a lent buffer answers: a refusal, or 0 and the bytes written.
-#[derive(Clone, Copy)]
-pub struct Written {
-    pub refusal: u8,
-    pub length: usize,
-}
+use refusals::Refusal;
 
 // Whether n places from `at` on are within `len`; by a difference, since the sum could wrap.
 pub fn within(len: usize, at: usize, n: usize) -> bool
@@ -27,10 +22,7 @@ pub fn within(len: usize, at: usize, n: usize) -> bool
 pub fn byte_at(s: &[u8], at: usize) -> u8
     ensures { result ≡ byte s.now at }
 {
-    if at < s.len() {
-        return s[at];
-    }
-    0
+    s.get(at).copied().unwrap_or(0)
 }
 
 // Puts these bytes into the buffer from `at` on, and says whether they are within it. Where not, nothing is written.
@@ -41,34 +33,19 @@ pub fn put(src: &[u8], buf: &mut [u8], at: usize) -> bool
     if !within(buf.len(), at, src.len()) {
         return false;
     }
-    let mut k: usize = 0;
-    while k < src.len() {
-        buf[at + k] = src[k];
-        k += 1;
-    }
+    buf[at..at + src.len()].copy_from_slice(src);
     true
 }
 
-// Refused by `refusal`, unless that is 0; else 13 where the buffer is too short; else the text is copied to the buffer's start.
-pub fn deliver(refusal: u8, text: &[u8], buf: &mut [u8]) -> Written
-    ensures { (result ≡ written_of refusal text.now buf.old)
-        × (buf.new ≡ filled_of refusal text.now buf.old) }
+// Copies the text to the buffer's start, and answers its length; 13 where the buffer is too short.
+pub fn deliver(text: &[u8], buf: &mut [u8]) -> Result<usize, Refusal>
+    ensures { (written result ≡ written_of 0 text.now buf.old)
+        × (buf.new ≡ filled_of 0 text.now buf.old) }
 {
-    if refusal != 0 {
-        return Written {
-            refusal: refusal,
-            length: 0,
-        };
+    let n = text.len();
+    if buf.len() < n {
+        return Err(Refusal::Buffer);
     }
-    if buf.len() < text.len() {
-        return Written {
-            refusal: refusals::BUFFER,
-            length: 0,
-        };
-    }
-    put(text, buf, 0);
-    Written {
-        refusal: 0,
-        length: text.len(),
-    }
+    buf[..n].copy_from_slice(text);
+    Ok(n)
 }

@@ -7,6 +7,7 @@ use native.Mathlib.Omega.{arith}
 use borrow.Author.Tests.{eqb-true, eqb-false, eq-eqb, ne_eqb}
 use lib.Dec.{eqb}
 use lib.ListN.{length, take}
+use Rattle.std.specs.Prelude.{Option, Some, None, IfSome}
 use Rattle.stuffing.specs.Stuffing.{stuffed, dles}
 use Rattle.stuffing.proofs.StuffingLaws.{length_stuffed}
 use Rattle.kinds.specs.Kinds.{content}
@@ -136,13 +137,13 @@ module _ (m : Mode) (n id : ℕ) (d : List ℕ) (c1 c2 h : ℕ) where
           record { known = omega arith; summed = s; usable = u; short = v; pending = omega (arith, w, length_stuffed d) }
 
 -- any data of their length are an acceptable 4Ah and 4Bh
-free_4a : (t : Bool) (d : List ℕ) → length d ≡ 33 → Fit 0x4A (perhaps t d)
-free_4a true d e = eqb-true (content 0x4A d) 0 (sym (test_4a d) ∙ ap (λ (b : Bool). b && true) (eq-eqb (length d) 33 e))
-free_4a false d e = tt
+free_4a : (o : Option (List ℕ)) → IfSome o (λ d. length d ≡ 33) → Fit 0x4A (perhaps o)
+free_4a (Some d) e = eqb-true (content 0x4A d) 0 (sym (test_4a d) ∙ ap (λ (b : Bool). b && true) (eq-eqb (length d) 33 e))
+free_4a None e = tt
 
-free_4b : (t : Bool) (d : List ℕ) → length d ≡ 42 → Fit 0x4B (perhaps t d)
-free_4b true d e = eqb-true (content 0x4B d) 0 (sym (test_4b d) ∙ ap (λ (b : Bool). b && true) (eq-eqb (length d) 42 e))
-free_4b false d e = tt
+free_4b : (o : Option (List ℕ)) → IfSome o (λ d. length d ≡ 42) → Fit 0x4B (perhaps o)
+free_4b (Some d) e = eqb-true (content 0x4B d) 0 (sym (test_4b d) ∙ ap (λ (b : Bool). b && true) (eq-eqb (length d) 42 e))
+free_4b None e = tt
 
 -- a record of this reader, by the clauses
 module _ (r : Reader) where
@@ -152,7 +153,7 @@ module _ (r : Reader) where
       r.head.pending
 
   pub to_possible : Placed → r.head.fed ≡ r.head.accepted + r.head.refused + r.head.outside + r.head.pending → LatestOk r.latest
-      → length r.latest.d4a ≡ 33 → length r.latest.d4b ≡ 42 → Possible (view r)
+      → IfSome r.latest.d4a (λ d. length d ≡ 33) → IfSome r.latest.d4b (λ d. length d ≡ 42) → Possible (view r)
   to_possible c f l a b =
       record {
         place = c.place;
@@ -163,8 +164,8 @@ module _ (r : Reader) where
         fed = f;
         latest_43 = l.ok_43;
         latest_46 = l.ok_46;
-        latest_4a = free_4a r.latest.has4a r.latest.d4a a;
-        latest_4b = free_4b r.latest.has4b r.latest.d4b b;
+        latest_4a = free_4a r.latest.d4a a;
+        latest_4b = free_4b r.latest.d4b b;
         latest_eb = l.ok_eb;
       }
 
@@ -198,15 +199,15 @@ module _ (r : Reader) where
       }
 
   -- the record is possible by what the code asks, and only so
-  pub possible_low : Plausible r.head r.latest → r.head.place < 2 → length r.latest.d4a ≡ 33 → length r.latest.d4b ≡ 42
-      → Possible (view r)
+  pub possible_low : Plausible r.head r.latest → r.head.place < 2
+      → IfSome r.latest.d4a (λ d. length d ≡ 33) → IfSome r.latest.d4b (λ d. length d ≡ 42) → Possible (view r)
   possible_low p l a b =
       to_possible
       (low_clauses (mode_of r.head.mode) r.head.place r.head.id (first_bytes r.head.len r.bytes) r.head.c1 r.head.c2 r.head.pending l (p.low l))
       p.fed p.latest a b
 
   pub possible_open : Plausible r.head r.latest → 2 ≤ r.head.place → Held r.head r.bytes → length r.bytes ≡ 1024
-      → length r.latest.d4a ≡ 33 → length r.latest.d4b ≡ 42 → Possible (view r)
+      → IfSome r.latest.d4a (λ d. length d ≡ 33) → IfSome r.latest.d4b (λ d. length d ≡ 42) → Possible (view r)
   possible_open p l h w a b =
       let o = p.opened l in
       let t = data_take r.head.len r.bytes (omega (arith, o.short)) in

@@ -2,6 +2,7 @@
 #![tactic(auto)]
 
 ghost use Rattle.std.specs.Prelude.{◌≡◌, ◌+◌, ◌≤◌, length, take};
+ghost use Rattle.refusals.specs.Numbers.{code};
 ghost use Rattle.stuffing.specs.Stuffing.{dles};
 ghost use Rattle.octets.specs.Deciding.{Decides};
 ghost use Rattle.record.specs.View.{record_of};
@@ -9,6 +10,7 @@ ghost use Rattle.questions.specs.Question.{Usable, Opened, Plausible, Questions}
 
 use latest::Latest;
 use record::{Count, Head, Reader};
+use refusals::Refusal;
 
 // Question 2, by its clauses.
 
@@ -16,51 +18,32 @@ use record::{Count, Head, Reader};
 fn usable(id: u8) -> bool
     ensures { Decides (Usable id) result }
 {
-    match id {
-        Reader::ETX | Reader::DLE | Reader::SUM => false,
-        0..=2 | 4..=15 | 17..=254 => true,
-    }
+    !matches!(id, Reader::ETX | Reader::DLE | Reader::SUM)
 }
 
 // An open frame's place, identifier and length.
 fn open(h: Head) -> bool
     ensures { Decides (Opened h) result }
 {
-    if Reader::PLACES <= h.place {
-        return false;
-    }
-    if Reader::CAPACITY < h.len {
-        return false;
-    }
-    if h.mode == 0 {
-        if Reader::C0 <= h.place {
-            return false;
-        }
-        return usable(h.id);
-    }
-    usable(h.id)
+    let places = if h.mode == 0 {
+        Reader::C0
+    } else {
+        Reader::PLACES
+    };
+    h.place < places && h.len <= Reader::CAPACITY && usable(h.id)
 }
 
 // Whether fed is the sum of the other four counts: by differences, since the sum may be wider than each.
 fn balanced(h: Head) -> bool
     ensures { Decides (h.fed ≡ h.accepted + h.refused + h.outside + h.pending) result }
 {
-    if h.fed < h.accepted {
+    let Some(rest) = h.fed.checked_sub(h.accepted) else {
         return false;
-    }
-    let rest = h.fed - h.accepted;
-    if rest < h.refused {
+    };
+    let Some(open) = rest.checked_sub(h.refused) else {
         return false;
-    }
-    let open = rest - h.refused;
-    if open < h.outside {
-        return false;
-    }
-    if open - h.outside == h.pending {
-        true
-    } else {
-        false
-    }
+    };
+    open.checked_sub(h.outside) == Some(h.pending)
 }
 
 // The pending bytes of an open frame: its place, its data and each DLE among them once more.
@@ -68,52 +51,46 @@ fn pending_of(h: Head, d: &[u8]) -> usize
     requires { (h.len ≤ 1024) × (length d.now ≡ 1024) }
     ensures { result ≡ h.place + (h.len + dles (take h.len d.now)) }
 {
-    let len = h.len;
-    h.place as usize + (len + stuffing::count_dle(&d[..len]))
+    h.place as usize + (h.len + stuffing::count_dle(&d[..h.len]))
 }
 
 // Question 2, but for the pending bytes of an open frame.
 fn plausible(h: Head, l: Latest) -> bool
     ensures { Decides (Plausible h l) result }
 {
-    if !balanced(h) {
-        return false;
-    }
-    if !latest::acceptable(l) {
+    if !balanced(h) || !latest::acceptable(l) {
         return false;
     }
     if h.place < Reader::F {
-        if h.pending == h.place as Count {
-            return true;
-        }
-        return false;
+        h.pending == Count::from(h.place)
+    } else {
+        open(h)
     }
-    open(h)
 }
 
-// Questions 1 to 3, in order, of a call that offers n bytes to a record of these parts: the number of the first that refuses, or 0.
+// Questions 1 to 3, in order, of a call that offers n bytes to a record of these parts: the first that says no refuses it.
 // An array that is not 1,024 bytes long is no record's: 2.
-pub fn question(h: Head, l: Latest, d: &[u8], n: usize) -> u8
-    ensures { Questions (record_of h l d.now) n result }
+pub fn question(h: Head, l: Latest, d: &[u8], n: usize) -> Result<(), Refusal>
+    ensures { Questions (record_of h l d.now) n (code result) }
 {
     if 2 <= h.mode {
-        return refusals::MODE;
+        return Err(Refusal::Mode);
     }
     if d.len() != Reader::CAPACITY {
-        return refusals::RECORD;
+        return Err(Refusal::Record);
     }
     if !plausible(h, l) {
-        return refusals::RECORD;
+        return Err(Refusal::Record);
     }
     if Reader::F <= h.place {
         if h.pending as usize != pending_of(h, d) {
-            return refusals::RECORD;
+            return Err(Refusal::Record);
         }
     }
     if h.fed >= Reader::LIMIT {
         if 0 < n {
-            return refusals::FULL;
+            return Err(Refusal::Full);
         }
     }
-    0
+    Ok(())
 }

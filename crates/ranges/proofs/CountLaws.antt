@@ -37,9 +37,6 @@ unfolding all
 all_of zero f h = refl
 all_of (suc n) f h = (and-eq-true_iff (all n f) (f n)).1 (all_of n f (λ i l. h i (omega arith)), h n (omega arith))
 
-pub all_fails : (n : ℕ) (f : ℕ → Bool) (i : ℕ) → i < n → f i ≡ false → all n f ≡ false
-all_fails n f i h e = fails (all n f) (λ t. never (f i) (all_at n f t i h) e)
-
 -- count
 pub count_more : (f : ℕ → Bool) (i : ℕ) → count (i + 1) f ≡ count i f + cond (f i) 1 0
 unfolding count

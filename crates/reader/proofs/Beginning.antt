@@ -82,11 +82,11 @@ module _ (r : Reader) (whole : length r.bytes ≡ 1024) (p : Possible (view r)) 
   ran_walk : (s : List ℕ) (n : ℕ) (t : Moved) (a : List ℕ) → Ran r.head.mode (start_of r.head) r.bytes a s n t → r.head.fed + n ≤ limit
       → (n < length s → r.head.fed + n ≡ limit)
       → walk (view r) s
-      ≡ result_of (turned r.head.mode (base_of r.head (latest_of r.latest)) t.act t.now t.last a (r.head.fed + t.at)) t.at
+      ≡ result_of (turned r.head.mode (base_of r.head (latest_of r.latest)) t.act t.now a (r.head.fed + t.at)) t.at
   ran_walk s n t a g l u =
       ap (λ x. walk x s) (sym see_view)
       ∙ g.says (base_of r.head (latest_of r.latest)) l
-      ∙ closes r.head.mode (base_of r.head (latest_of r.latest)) t.act t.now t.last a s t.at
+      ∙ closes r.head.mode (base_of r.head (latest_of r.latest)) t.act t.now a s t.at
       (λ e h. let i = g.through e in let v = u (omega (arith, i, h)) in omega (arith, i, v))
 
   pub ready_of : (s : List ℕ) (n : ℕ) (t : Moved) (a : List ℕ) → Ran r.head.mode (start_of r.head) r.bytes a s n t → r.head.fed + n ≤ limit

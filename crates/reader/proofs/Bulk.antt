@@ -1,7 +1,7 @@
 -- Bytes that are no DLE, many at once: outside frames and inside data.
 use mathlib.Core.Bool.{cond}
 use mathlib.Core.List.{List, [], ◌∷◌, ◌++◌, append_assoc, append-nil}
-use mathlib.Core.Path.{◌≡◌, refl, sym, ap, ◌∙◌}
+use mathlib.Core.Path.{◌≡◌, refl, sym, ap, subst, ◌∙◌}
 use Prim.Native.Nat.{ℕ, zero, suc, ◌+◌, ◌-◌, ◌≤◌, ◌<◌}
 use native.Mathlib.Nat.{add-zero, le_refl}
 use native.Mathlib.Numerals.{add-one}
@@ -9,8 +9,9 @@ use native.Mathlib.Omega.{arith}
 use borrow.Author.Count.{below_more}
 use borrow.Author.Tests.{lt-ltb, ltb-true, ltb-false}
 use lib.Dec.{ltb}
+use borrow.Rule.Slice.PartMut.{put_mid}
 use lib.ListN.{length, take, drop, get_or, set, length-append, length-drop, length-set}
-use lib.Seq.{take-suc, take-suc-set, take-take, take-add, drop-drop, get_or-drop, get_or-take, drop-cons}
+use lib.Seq.{length-take-le, take-suc, take-suc-set, take-take, take-add, drop-drop, get_or-drop, get_or-take, drop-cons}
 use Rattle.stuffing.specs.Stuffing.{DLE, stuffed}
 use Rattle.stuffing.proofs.StuffingLaws.{stuffed_nil, stuffed_other, stuffed_append}
 use Rattle.stuffing.proofs.PlainLaws.{Plain}
@@ -24,7 +25,11 @@ use Rattle.line.specs.Record.Place.{at as on}
 use Rattle.line.proofs.Classes.{dle_is}
 use Rattle.line.proofs.Reading.{is}
 use Rattle.record.specs.View.{place_of}
-use Rattle.reader.specs.Moving.{moving_of, NoDle, Copied, Base, one, see, ahead, Pends}
+use Rattle.std.proofs.lemmas.Slice.{take-put_mid}
+use Rattle.std.specs.List.{AllWithin, HoldsAt}
+use Rattle.std.specs.Option.{MatchOption}
+use Rattle.std.proofs.Common.{Option, Some, None}
+use Rattle.reader.specs.Moving.{moving_of, Skips, NoDle, Copied, Fills, Base, one, see, ahead, Pends}
 use Rattle.reader.specs.declared.Moving.{Moving}
 use Rattle.reader.proofs.Stepping.{one_by}
 use Rattle.record.proofs.Data.{tested}
@@ -36,12 +41,52 @@ none_yet s from j h l = absurd (let z : ⊥ = omega arith in z)
 pub none_more : (s : List ℕ) (from at : ℕ) → NoDle s from at → (get_or s at 0 ≡ DLE → ⊥) → NoDle s from (at + 1)
 none_more s from at p q j h l = below_more (λ (i : ℕ). from ≤ i → get_or s i 0 ≡ DLE → ⊥) at (λ i x y. p i y x) (λ y. q) j l h
 
--- nothing is stored yet
-pub copied_none : (d s : List ℕ) (len from : ℕ) → length d ≡ 1024 → Copied d d len s from from
-copied_none d s len from w =
-    let e : from - from ≡ 0 = omega arith in
-    let n : len + (from - from) ≡ len = omega arith in
-    record { least = le_refl from; none = none_yet s from; whole = w; same = rw (n, e) (sym (append-nil (take len d))) }
+-- what `position` answers over a part of a slice, of DLE
+abbrev pub IsFirst : List ℕ → Option ℕ → Type 0
+IsFirst xs r =
+    MatchOption r (AllWithin (λ b. b ≡ DLE → ⊥) xs 0 (length xs))
+    (λ i. (i < length xs) × HoldsAt (λ b. b ≡ DLE) xs i × AllWithin (λ b. b ≡ DLE → ⊥) xs 0 i)
+
+read_part : (s : List ℕ) (from n i : ℕ) → from + i < n → get_or (take (n - from) (drop from s)) i 0 ≡ get_or s (from + i) 0
+read_part s from n i h = get_or-take (n - from) (drop from s) i 0 (omega arith) ∙ get_or-drop from s i 0
+
+length_part : (s : List ℕ) (from n : ℕ) → from ≤ n → n ≤ length s → length (take (n - from) (drop from s)) ≡ n - from
+length_part s from n h l = length-take-le (n - from) (drop from s) (rw (length-drop from s) (omega arith))
+
+none_within : (s : List ℕ) (from n r : ℕ) → from + r ≤ n → AllWithin (λ b. b ≡ DLE → ⊥) (take (n - from) (drop from s)) 0 r → NoDle s from (from + r)
+none_within s from n r h w j l u e =
+    let i : from + (j - from) ≡ j = omega arith in
+    w (j - from) 0 (omega arith) (omega arith) (read_part s from n (j - from) (omega arith) ∙ ap (λ (k : ℕ). get_or s k 0) i ∙ e)
+
+pub skipped : (s : List ℕ) (from n i : ℕ) → from ≤ n → n ≤ length s → IsFirst (take (n - from) (drop from s)) (Some i) → Skips s from n (from + i)
+skipped s from n i h l f =
+    let e = length_part s from n h l in
+    record {
+      least = omega arith;
+      most = omega (arith, e, f.0);
+      none = none_within s from n i (omega (arith, e, f.0)) f.2;
+      stop = λ u. sym (read_part s from n i u) ∙ f.1 0;
+    }
+
+pub skipped_all : (s : List ℕ) (from n : ℕ) → from ≤ n → n ≤ length s → IsFirst (take (n - from) (drop from s)) None → Skips s from n n
+skipped_all s from n h l f =
+    let e : from + (n - from) ≡ n = omega arith in
+    record {
+      least = h;
+      most = le_refl n;
+      none = subst (NoDle s from) e (none_within s from n (n - from) (omega arith) (subst (AllWithin (λ b. b ≡ DLE → ⊥) (take (n - from) (drop from s)) 0) (length_part s from n h l) f));
+      stop = λ u. absurd (omega (arith, u));
+    }
+
+pub none_four : (s : List ℕ) (at : ℕ) → Plain s at → NoDle s at (at + 4)
+none_four s at p =
+    let n2 : at + 1 + 1 ≡ at + 2 = omega arith in
+    let n3 : at + 2 + 1 ≡ at + 3 = omega arith in
+    let n4 : at + 3 + 1 ≡ at + 4 = omega arith in
+    let a1 = none_more s at at (none_yet s at) p.first in
+    let a2 = rw n2 at (none_more s at (at + 1) a1 p.second) in
+    let a3 = rw n3 at (none_more s at (at + 2) a2 p.third) in
+    rw n4 at (none_more s at (at + 3) a3 p.fourth)
 
 fill_more : (d₀ d s : List ℕ) (len from at to : ℕ) → to < length d → from ≤ at → at < length s
     → take to d ≡ take len d₀ ++ take (at - from) (drop from s)
@@ -58,7 +103,7 @@ fill_more d₀ d s len from at to h f l e =
     ∙ ap (λ (x : List ℕ). take len d₀ ++ x)
     (sym (take-suc (drop from s) (at - from) 0 m ∙ ap (λ (x : ℕ). take (at - from) (drop from s) ++ (x ∷ [])) b)))
 
--- one more byte, and four
+-- one more byte, and a part of the slice
 pub copied_more : (a a' s : List ℕ) (len from at to : ℕ) → to ≡ len + (at - from) → Copied a a' len s from at → at < length s → to < 1024
     → (get_or s at 0 ≡ DLE → ⊥) → Copied a (set a' to (get_or s at 0)) len s from (at + 1)
 copied_more a a' s len from at to e c l r n =
@@ -73,21 +118,34 @@ copied_more a a' s len from at to e c l r n =
       same = rw t (fill_more a a' s len from at to (omega arith) f l q);
     }
 
-pub copied_four : (a a' s : List ℕ) (len from at to : ℕ) → to ≡ len + (at - from) → Copied a a' len s from at → len + (length s - from) ≤ 1024
-    → Plain s at
-    → Copied a
-    (set (set (set (set a' to (get_or s at 0)) (to + 1) (get_or s (at + 1) 0)) (to + 2) (get_or s (at + 2) 0)) (to + 3) (get_or s (at + 3) 0)) len s
-    from (at + 4)
-copied_four a a' s len from at to e c l p =
+length_put : (to k : ℕ) (a ys : List ℕ) → to + k ≤ length a → length ys ≡ k → length (put_mid to k a ys) ≡ length a
+length_put to k a ys h e =
+    length-append (take to a) (ys ++ drop k (drop to a))
+    ∙ omega (arith, e, h, length-take-le to a (omega arith), length-append ys (drop k (drop to a)), length-drop k (drop to a), length-drop to a)
+
+pub copied_run : (a a' ys s : List ℕ) (len from at r to k : ℕ) → to ≡ len + (at - from) → Copied a a' len s from at → at ≤ r → r ≤ length s
+    → len + (r - from) ≤ 1024 → NoDle s at r → k ≡ r - at → ys ≡ take (r - at) (drop at s) → Copied a (put_mid to k a' ys) len s from r
+copied_run a a' ys s len from at r to k e c l h u n b y =
     let f : from ≤ at = c.least in
-    let t : at + 4 ≤ length s = p.there in
-    let n2 : at + 1 + 1 ≡ at + 2 = omega arith in
-    let n3 : at + 2 + 1 ≡ at + 3 = omega arith in
-    let n4 : at + 3 + 1 ≡ at + 4 = omega arith in
-    let c1 = copied_more a a' s len from at to e c (omega arith) (omega arith) p.first in
-    let c2 = rw n2 at (copied_more a _ s len from (at + 1) (to + 1) (omega arith) c1 (omega arith) (omega arith) p.second) in
-    let c3 = rw n3 at (copied_more a _ s len from (at + 2) (to + 2) (omega arith) c2 (omega arith) (omega arith) p.third) in
-    rw n4 at (copied_more a _ s len from (at + 3) (to + 3) (omega arith) c3 (omega arith) (omega arith) p.fourth)
+    let w = c.whole in
+    let z : length ys ≡ r - at = ap length y ∙ length_part s at r l h in
+    let t : len + (r - from) ≡ to + (r - at) = omega arith in
+    let m : r - from ≡ at - from + (r - at) = omega arith in
+    let i : from + (at - from) ≡ at = omega arith in
+    record {
+      least = omega arith;
+      none = λ j v x. tested (ltb j at) (λ q. c.none j v (ltb-true j at q)) (λ q. n j (ltb-false j at q) x);
+      whole = length_put to k a' ys (omega arith) (z ∙ sym b) ∙ w;
+      same =
+          rw (t, m)
+          (take-put_mid to k a' ys (to + (r - at)) (omega (arith, z)) (omega arith)
+          ∙ ap (λ x. take to a' ++ x) y
+          ∙ ap (λ x. x ++ take (r - at) (drop at s)) (ap (λ (x : ℕ). take x a') e ∙ c.same)
+          ∙ append_assoc (take len a) (take (at - from) (drop from s)) (take (r - at) (drop at s))
+          ∙ ap (λ x. take len a ++ x)
+          (sym (take-add (at - from) (r - at) (drop from s)
+          ∙ ap (λ x. take (at - from) (drop from s) ++ take (r - at) x) (drop-drop (at - from) from s ∙ ap (λ (v : ℕ). drop v s) i))));
+    }
 
 -- bytes stored, and then more
 pub copied_then : (a b c s : List ℕ) (len from at r : ℕ) → Copied a b len s from at → Copied b c (len + (at - from)) s at r → Copied a c len s from r
@@ -127,6 +185,12 @@ copied_beyond a a' s len from r most h c =
       whole = c.whole;
       same = c.same ∙ ap (λ x. take len a ++ x) (window (r - from) from most s (omega arith));
     }
+
+-- the bytes stored, where no more are to be
+pub fills_of : (a c s : List ℕ) (len from n r : ℕ) → Copied a c len s from r → r ≤ n → len + (r - from) ≤ 1024
+    → (r < n → (get_or s r 0 ≡ DLE → ⊥) → len + (r - from) ≡ 1024) → Fills a c len s from n r
+fills_of a c s len from n r z m h f =
+    record { least = z.least; most = m; held = h; none = z.none; stop = f; whole = z.whole; same = z.same }
 
 -- a byte that is no DLE, in W and in F
 w_other : (m : Mode) (b : ℕ) → (b ≡ DLE → ⊥) → next m W b ≡ skip 1

@@ -63,7 +63,7 @@ pends_of {k} {m} {a} {a'} {b} {t = t} x e =
     ap (λ (o : Out). o.after.pending) w ∙ sym (ap (λ (o : Out). pending (state_of o.after.place)) w)
   where
     w : record { after = see k any t.now a' (0 + 1); event = nothing } ≡ one (see k any m a 0) b
-    w = ap (λ (y : Act). turned k any y t.now t.last a' (0 + 1)) (sym e) ∙ x.says any 0
+    w = ap (λ (y : Act). turned k any y t.now a' (0 + 1)) (sym e) ∙ x.says any 0
 
 -- and their place stays possible
 sound_of : {k : ℕ} {m : Moving} {a a' : List ℕ} {b at n : ℕ} {t : Moved} → Moves k m a a' b at n t → t.act ≡ Quiet → Sound k m a
@@ -73,7 +73,7 @@ sound_of {k} {m} {a} {a'} {b} {t = t} x e h =
     subst⁻¹ (PlaceOk (mode_of k)) (ap (λ (o : Out). state_of o.after.place) w) (sound (mode_of k) (state_of (place_now m a)) b (class_of b) refl h).0
   where
     w : record { after = see k any t.now a' (0 + 1); event = nothing } ≡ one (see k any m a 0) b
-    w = ap (λ (y : Act). turned k any y t.now t.last a' (0 + 1)) (sym e) ∙ x.says any 0
+    w = ap (λ (y : Act). turned k any y t.now a' (0 + 1)) (sym e) ∙ x.says any 0
 
 -- a function of one byte, as one of some bytes
 pub goes_of : {k : ℕ} {m : Moving} {a a' s : List ℕ} {at n : ℕ} {t : Moved} → Moves k m a a' (get_or s at 0) (at + 1) n t → at < n
@@ -90,9 +90,9 @@ goes_of {k} {m} {a} {a'} {s} {at} {n} {t} x h l w =
       whole = w;
       says = λ z q.
           one_step (see k z m a (z.fed + at)) s at _ (x.says z (z.fed + at)) (omega arith) (omega arith)
-          ∙ ap (λ (i : ℕ). onward (turned k z t.act t.now t.last a' i) s (at + 1))
+          ∙ ap (λ (i : ℕ). onward (turned k z t.act t.now a' i) s (at + 1))
           (let e : z.fed + at + 1 ≡ z.fed + (at + 1) = omega arith in e)
-          ∙ ap (λ (i : ℕ). onward (turned k z t.act t.now t.last a' (z.fed + i)) s i) (sym x.next);
+          ∙ ap (λ (i : ℕ). onward (turned k z t.act t.now a' (z.fed + i)) s i) (sym x.next);
     }
 
 -- bytes that raise nothing
@@ -121,7 +121,7 @@ then_goes q h e v g =
 -- and then the end
 pub then_stop : {k : ℕ} {m w : Moving} {a a' s : List ℕ} {at to n : ℕ} → Silent k m a w a' s at to n → at < to → to ≤ n
     → w.outside + w.pending + at ≡ m.outside + m.pending + to → Fits w to n → Pends w a' → (Sound k m a → Sound k w a')
-    → length a' ≡ 1024 → Goes k m a a' s at n (record { now = w; act = Quiet; last = 0; at = to })
+    → length a' ≡ 1024 → Goes k m a a' s at n (record { now = w; act = Quiet; at = to })
 unfolding turned
 then_stop q h l e f p v w =
     record { fits = f; pends = λ z. p; sound = λ y u. v u; tally = e; busy = tt; more = h; most = l; whole = w; says = q }
@@ -137,16 +137,9 @@ begin k z m a s =
 
 -- an act that goes on
 keep_on : (k : ℕ) (z : Base) (t : Moved) (a s : List ℕ) (f n : ℕ) → t.act ≡ Quiet
-    → onward (turned k z t.act t.now t.last a f) s n ≡ ahead n (walk (see k z t.now a f) (drop n s))
+    → onward (turned k z t.act t.now a f) s n ≡ ahead n (walk (see k z t.now a f) (drop n s))
 unfolding turned
-keep_on k z t a s f n e = ap (λ (y : Act). onward (turned k z y t.now t.last a f) s n) e
-
--- an act that ends the run
-abbrev pub Ends : Act → Type 0
-Ends Quiet = ⊥
-Ends (Refused v) = Unit {0}
-Ends (Reopened v) = Unit {0}
-Ends Ended = Unit {0}
+keep_on k z t a s f n e = ap (λ (y : Act). onward (turned k z y t.now a f) s n) e
 
 -- what holds at the head of the outer loop
 abbrev pub Left : ℕ → Moving → List ℕ → List ℕ → ℕ → List ℕ → Moving → ℕ → Type 0
@@ -160,24 +153,10 @@ pub left_again : (k : ℕ) (m₀ : Moving) (a₀ : List ℕ) {m : Moving} {a a' 
 left_again k m₀ a₀ {a' = a'} {s = s} {t = t} l g e z q =
     l z q ∙ g.says z q ∙ keep_on k z t a' s (z.fed + t.at) t.at e
 
--- a turn that ends the run
-pub ran_event : {k : ℕ} {m₀ m : Moving} {a₀ a a' s : List ℕ} {at n : ℕ} {t : Moved} → Left k m₀ a₀ s n a m at
-    → m.outside + m.pending ≡ m₀.outside + m₀.pending + at → Goes k m a a' s at n t → Ends t.act → Ran k m₀ a₀ a' s n t
-ran_event l y g e =
-    record {
-      fits = g.fits;
-      tally = omega (arith, y, g.tally);
-      busy = g.busy;
-      most = g.most;
-      through = λ q. absurd (subst Ends q e);
-      whole = g.whole;
-      says = λ z q. l z q ∙ g.says z q;
-    }
-
 -- the end
 pub ran_through : {k : ℕ} {m₀ m : Moving} {a₀ a s : List ℕ} {at n : ℕ} → Left k m₀ a₀ s n a m at
     → m.outside + m.pending ≡ m₀.outside + m₀.pending + at → Fits m at n → at ≡ n → length a ≡ 1024
-    → Ran k m₀ a₀ a s n (record { now = m; act = Quiet; last = 0; at = at })
+    → Ran k m₀ a₀ a s n (record { now = m; act = Quiet; at = at })
 unfolding turned
 ran_through l y f e w =
     record { fits = f; tally = y; busy = tt; most = omega (arith, e); through = λ q. e; whole = w; says = l }
@@ -209,12 +188,12 @@ ended_stops true v k z m a f s at = refl
 ended_stops false v k z m a f s at = refl
 
 -- the run is over
-pub closes : (k : ℕ) (z : Base) (x : Act) (m : Moving) (b : ℕ) (a s : List ℕ) (at : ℕ)
+pub closes : (k : ℕ) (z : Base) (x : Act) (m : Moving) (a s : List ℕ) (at : ℕ)
     → (x ≡ Quiet → at < length s → limit ≤ z.fed + at)
-    → onward (turned k z x m b a (z.fed + at)) s at
-    ≡ record { after = (turned k z x m b a (z.fed + at)).after; answer = (turned k z x m b a (z.fed + at)).event; taken = at }
+    → onward (turned k z x m a (z.fed + at)) s at
+    ≡ record { after = (turned k z x m a (z.fed + at)).after; answer = (turned k z x m a (z.fed + at)).event; taken = at }
 unfolding turned
-closes k z Quiet m b a s at f = stops (see k z m a (z.fed + at)) s at (λ h. f refl h)
-closes k z (Refused v) m b a s at f = refl
-closes k z (Reopened v) m b a s at f = refl
-closes k z Ended m b a s at f = ended_stops (eqb (verdict_of k m a) 0) (verdict_of k m a) k z m a (z.fed + at) s at
+closes k z Quiet m a s at f = stops (see k z m a (z.fed + at)) s at (λ h. f refl h)
+closes k z (Refused v) m a s at f = refl
+closes k z (Reopened v b) m a s at f = refl
+closes k z Ended m a s at f = ended_stops (eqb (verdict_of k m a) 0) (verdict_of k m a) k z m a (z.fed + at) s at

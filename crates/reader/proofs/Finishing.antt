@@ -2,11 +2,15 @@
 use mathlib.Core.Bool.{Bool, true, false, cond}
 use mathlib.Core.List.{List, []}
 use mathlib.Core.Option.{Option}
-use mathlib.Core.Path.{◌≡◌, refl, sym, ◌∙◌, subst}
+use mathlib.Core.Path.{◌≡◌, refl, sym, subst}
 use Prim.Native.Nat.{ℕ, ◌+◌, ◌-◌, ◌≤◌}
 use native.Mathlib.Nat.{add-zero}
 use native.Mathlib.Omega.{arith}
-use borrow.Author.Tests.{eqb-true}
+use borrow.Author.Tests.{ne_eqb}
+use Rattle.std.specs.Prelude.{Result, Ok, Err}
+use Rattle.refusals.specs.declared.Refusal.{Refusal}
+use Rattle.refusals.specs.Numbers.{number, code}
+use Rattle.refusals.proofs.NumberLaws.{positive}
 use lib.Dec.{eqb}
 use lib.ListN.{length, take}
 use Rattle.kinds.specs.Kinds.{content}
@@ -19,10 +23,10 @@ use Rattle.line.specs.Record.Place.{at as on}
 use Rattle.record.specs.View.{place_of, first_bytes}
 use Rattle.record.proofs.Data.{data_take}
 use Rattle.reader.specs.Moving.{see, closed_by, ended, verdict_of, base_of}
-use Rattle.reader.specs.Closing.{head_with, resumed, reopened_by, concluded_by, stored_by, see_head, Finishes}
+use Rattle.reader.specs.Closing.{head_with, resumed, reopened_by, dismissed, concluded, stored_by, see_head, Finishes}
 use Rattle.record.specs.declared.Head.{Head}
 use Rattle.reader.specs.declared.Moving.{Moving}
-use Rattle.record.specs.declared.Event.TheVariants.{Message}
+use Rattle.record.specs.View.Event.{Message}
 
 -- where questions 9 to 12 are yes, 10 to 12 are
 judge_accepts : (m : Mode) (id : ℕ) (d : List ℕ) (c1 c2 : ℕ) → judge m id d c1 c2 ≡ 0 → Acceptable id d
@@ -66,9 +70,9 @@ module _ (h : Head) (m : Moving) (at : ℕ) (a : List ℕ) (l : Kept → Option 
             latest = l;
           }
 
-  pub finish_refused : (v : ℕ)
-      → Finishes l (closed_by h.mode (base_of h l) 0 m.pending (on W) m.outside 0 (h.fed + at) (refusal v m.id m.pending)) a
-      (concluded_by false h m at v)
+  pub finish_refused : (v : Refusal)
+      → Finishes l (closed_by h.mode (base_of h l) 0 m.pending (on W) m.outside 0 (h.fed + at) (refusal (number v) m.id m.pending)) a
+      (dismissed h m at v)
   unfolding first_bytes place_of
   finish_refused v =
       record {
@@ -88,8 +92,8 @@ module _ (h : Head) (m : Moving) (at : ℕ) (a : List ℕ) (l : Kept → Option 
         good = λ e. not_kept e;
       }
 
-  pub finish_reopened : (v b : ℕ)
-      → Finishes l (closed_by h.mode (base_of h l) 0 (m.pending - 2) (on (F b [])) m.outside 2 (h.fed + at) (refusal v m.id (m.pending - 2))) a
+  pub finish_reopened : (v : Refusal) (b : ℕ)
+      → Finishes l (closed_by h.mode (base_of h l) 0 (m.pending - 2) (on (F b [])) m.outside 2 (h.fed + at) (refusal (number v) m.id (m.pending - 2))) a
       (reopened_by h m b at v)
   unfolding first_bytes place_of
   finish_reopened v b =
@@ -110,20 +114,21 @@ module _ (h : Head) (m : Moving) (at : ℕ) (a : List ℕ) (l : Kept → Option 
         good = λ e. not_kept e;
       }
 
-  pub finish_ended : (v : ℕ) → v ≡ verdict_of h.mode m a
+  pub finish_ended : (x : Result (Unit {0}) Refusal) → code x ≡ verdict_of h.mode m a
       → Finishes l (ended (eqb (verdict_of h.mode m a) 0) (verdict_of h.mode m a) h.mode (base_of h l) m a (h.fed + at)) a
-      (concluded_by (eqb v 0) h m at v)
+      (concluded h m at x)
   unfolding first_bytes place_of
-  finish_ended v e = subst P e (by (eqb v 0) refl)
+  finish_ended x e = subst P e (by x e)
     where
       P : ℕ → Type 0
-      P w = Finishes l (ended (eqb w 0) w h.mode (base_of h l) m a (h.fed + at)) a (concluded_by (eqb v 0) h m at v)
+      P w = Finishes l (ended (eqb w 0) w h.mode (base_of h l) m a (h.fed + at)) a (concluded h m at x)
 
       d : first_bytes m.len a ≡ take m.len a
       d = data_take m.len a (omega arith)
 
-      by : (t : Bool) → eqb v 0 ≡ t → Finishes l (ended t v h.mode (base_of h l) m a (h.fed + at)) a (concluded_by t h m at v)
-      by true q =
+      by : (y : Result (Unit {0}) Refusal) → code y ≡ verdict_of h.mode m a
+          → Finishes l (ended (eqb (code y) 0) (code y) h.mode (base_of h l) m a (h.fed + at)) a (concluded h m at y)
+      by (Ok u) q =
           record {
             after = λ i.
                 record {
@@ -138,6 +143,6 @@ module _ (h : Head) (m : Moving) (at : ℕ) (a : List ℕ) (l : Kept → Option 
                 };
             said = λ i. record { event = Message; id = m.id; body = d i; closed = m.pending };
             short = short;
-            good = λ z. judge_accepts (mode_of h.mode) m.id (take m.len a) m.c1 m.c2 (sym e ∙ eqb-true v 0 q);
+            good = λ z. judge_accepts (mode_of h.mode) m.id (take m.len a) m.c1 m.c2 (sym q);
           }
-      by false q = finish_refused v
+      by (Err v) q = rw (ne_eqb (number v) 0 (positive v)) (finish_refused v)

@@ -17,7 +17,10 @@ use Rattle.record.specs.declared.Fed.{Fed}
 use Rattle.record.specs.declared.InPlace.{InPlace}
 use Rattle.questions.specs.Question.{Valid, Questions}
 use Rattle.reader.specs.Moving.{Out, base_of, result_of, turned}
-use Rattle.reader.specs.Closing.{Finishes, stored_by, refused_by}
+use Rattle.refusals.specs.declared.Refusal.{Refusal}
+use Rattle.refusals.specs.Numbers.{number}
+use Rattle.refusals.proofs.NumberLaws.{positive}
+use Rattle.reader.specs.Closing.{Finishes, is_message, stored_by, refused_by}
 use Rattle.reader.specs.declared.Moved.{Moved}
 use Rattle.reader.specs.declared.Closed.{Closed}
 
@@ -28,10 +31,10 @@ Comes w x = (view x.reader ≡ w.after) × (parts_of x.answer ≡ shown w.answer
 module _ (r : Reader) (t : Moved) where
   -- what is left to do
   abbrev pub out : Out
-  out = turned r.head.mode (base_of r.head (latest_of r.latest)) t.act t.now t.last r.bytes (r.head.fed + t.at)
+  out = turned r.head.mode (base_of r.head (latest_of r.latest)) t.act t.now r.bytes (r.head.fed + t.at)
 
   pub gives : (o : Closed) (x : Latest) → Finishes (latest_of r.latest) out r.bytes o
-      → ((i : Kept) → latest_of x i ≡ stored_by o.keep o.id (take o.len r.bytes) (latest_of r.latest) i)
+      → ((i : Kept) → latest_of x i ≡ stored_by (is_message o.event) o.id (take o.len r.bytes) (latest_of r.latest) i)
       → Comes (result_of out t.at)
       (record {
         reader = record { head = o.head; latest = x; bytes = r.bytes };
@@ -57,9 +60,9 @@ module _ (r : Reader) (t : Moved) where
 
 module _ (r : Reader) (s : List ℕ) (v : ℕ) (q : Questions r (length s) v) where
   -- where one of questions 1 to 3 is no
-  pub refuses : (v ≡ 0 → ⊥) → InPlacePost r.head r.latest r.bytes r.bytes s (refused_by r.head r.latest v)
+  pub refuses : (x : Refusal) → number x ≡ v → InPlacePost r.head r.latest r.bytes r.bytes s (refused_by r.head r.latest x)
   unfolding first_bytes
-  refuses n =
+  refuses x m =
       record {
         feeds = λ w.
             record {
@@ -68,7 +71,7 @@ module _ (r : Reader) (s : List ℕ) (v : ℕ) (q : Questions r (length s) v) wh
                     one = λ z. by 1 (q.one z);
                     two = λ z g. by 2 (q.two z (λ u. g u.possible));
                     three = λ z p o l. by 3 (q.three z (valid w p) o l);
-                    rest = λ z p o. absurd (n (q.rest z (valid w p) o));
+                    rest = λ z p o. absurd (positive x (m ∙ q.rest z (valid w p) o));
                   };
               array = refl;
             };
@@ -79,11 +82,11 @@ module _ (r : Reader) (s : List ℕ) (v : ℕ) (q : Questions r (length s) v) wh
       valid : length r.bytes ≡ 1024 → Possible (view r) → Valid r
       valid w p = record { whole = w; possible = p }
 
-      by : (k : ℕ) → v ≡ k → Refuses k r (fed_of (refused_by r.head r.latest v) r.bytes)
-      by k e = subst (λ (j : ℕ). Refuses j r (fed_of (refused_by r.head r.latest v) r.bytes)) e (refl, refl, refl)
+      by : (k : ℕ) → v ≡ k → Refuses k r (fed_of (refused_by r.head r.latest x) r.bytes)
+      by k e = subst (λ (j : ℕ). Refuses j r (fed_of (refused_by r.head r.latest x) r.bytes)) (m ∙ e) (refl, refl, refl)
 
       other : (length r.bytes ≡ 1024 → ⊥) → (t : Bool) → ltb 1 r.head.mode ≡ t
-          → Refuses (cond t 1 2) r (fed_of (refused_by r.head r.latest v) r.bytes)
+          → Refuses (cond t 1 2) r (fed_of (refused_by r.head r.latest x) r.bytes)
       other w true e = by 1 (q.one (ltb-true 1 r.head.mode e))
       other w false e = by 2 (q.two (ltb-false 1 r.head.mode e) (λ u. w u.whole))
 

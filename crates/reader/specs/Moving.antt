@@ -8,6 +8,7 @@ use Rattle.line.specs.Table.State.{W, F}
 use Rattle.line.specs.Table.Event.{nothing, refusal}
 use Rattle.line.specs.Record.{Rec, Kept, Place, Result, limit, state_of, update, event_of, stepped, or_stop, walk, PlaceOk}
 use Rattle.line.specs.Record.Place.{at as on}
+use Rattle.refusals.specs.Numbers.{number}
 use Rattle.record.specs.View.{place_of}
 use Rattle.record.specs.declared.Head.{Head}
 use Rattle.reader.specs.declared.Moving.{Moving}
@@ -113,13 +114,13 @@ ended false v k z m a f = closed_by k z 0 m.pending (on W) m.outside 0 f (verdic
 abbrev pub verdict_of : ℕ → Moving → List ℕ → ℕ
 verdict_of k m a = judge (mode_of k) m.id (take m.len a) m.c1 m.c2
 
--- the record and the answer that an act leaves to make, with f bytes fed; pending has the last byte, b
-unfoldable pub turned : ℕ → Base → Act → Moving → ℕ → List ℕ → ℕ → Out
-turned k z Quiet m b a f = record { after = see k z m a f; event = nothing }
-turned k z (Refused v) m b a f = closed_by k z 0 m.pending (on W) m.outside 0 f (refusal v m.id m.pending)
-turned k z (Reopened v) m b a f =
-    closed_by k z 0 (m.pending - 2) (on (F b [])) m.outside 2 f (refusal v m.id (m.pending - 2))
-turned k z Ended m b a f = ended (eqb (verdict_of k m a) 0) (verdict_of k m a) k z m a f
+-- the record and the answer that an act leaves to make, with f bytes fed
+unfoldable pub turned : ℕ → Base → Act → Moving → List ℕ → ℕ → Out
+turned k z Quiet m a f = record { after = see k z m a f; event = nothing }
+turned k z (Refused v) m a f = closed_by k z 0 m.pending (on W) m.outside 0 f (refusal (number v) m.id m.pending)
+turned k z (Reopened v b) m a f =
+    closed_by k z 0 (m.pending - 2) (on (F b [])) m.outside 2 f (refusal (number v) m.id (m.pending - 2))
+turned k z Ended m a f = ended (eqb (verdict_of k m a) 0) (verdict_of k m a) k z m a f
 
 -- a walk that comes after n bytes
 abbrev pub ahead : ℕ → Result → Result
@@ -148,11 +149,23 @@ pub record Fits (m : Moving) (at n : ℕ) : Type 0 where
   pub short : m.len ≤ 1024
   pub room : m.outside + m.pending + n ≤ limit + at
 
+-- a byte was taken in a place, and `at` is what comes after it
+pub record Taken (m : Moving) (at n place : ℕ) : Type 0 where
+  pub past : 1 ≤ at
+  pub within : at ≤ n
+  pub here : m.place ≡ place
+  pub fits : Fits m (at - 1) n
+
+-- an array is a record's, and the pending bytes are those of the open frame
+pub record Held (m : Moving) (a : List ℕ) : Type 0 where
+  pub whole : length a ≡ 1024
+  pub pends : Pends m a
+
 -- an event closes two bytes at least
 abbrev pub Busy : Act → Moving → Type 0
 Busy Quiet m = Unit {0}
 Busy (Refused v) m = 2 ≤ m.pending
-Busy (Reopened v) m = 2 ≤ m.pending
+Busy (Reopened v b) m = 2 ≤ m.pending
 Busy Ended m = 2 ≤ m.pending
 
 -- one byte: t is what the table says of the byte b, and `at` is the place after it
@@ -161,7 +174,7 @@ pub record Moves (k : ℕ) (m : Moving) (a a' : List ℕ) (b at n : ℕ) (t : Mo
   pub tally : t.now.outside + t.now.pending ≡ m.outside + m.pending + 1
   pub busy : Busy t.act t.now
   pub next : t.at ≡ at
-  pub says : (z : Base) (f : ℕ) → turned k z t.act t.now t.last a' (f + 1) ≡ one (see k z m a f) b
+  pub says : (z : Base) (f : ℕ) → turned k z t.act t.now a' (f + 1) ≡ one (see k z m a f) b
 
 -- some bytes, one at least: what was left to do is what t leaves to do
 pub record Goes (k : ℕ) (m : Moving) (a a' s : List ℕ) (at n : ℕ) (t : Moved) : Type 0 where
@@ -175,7 +188,7 @@ pub record Goes (k : ℕ) (m : Moving) (a a' s : List ℕ) (at n : ℕ) (t : Mov
   pub whole : length a' ≡ 1024
   pub says : (z : Base) → z.fed + n ≤ limit
       → ahead at (walk (see k z m a (z.fed + at)) (drop at s))
-      ≡ onward (turned k z t.act t.now t.last a' (z.fed + t.at)) s t.at
+      ≡ onward (turned k z t.act t.now a' (z.fed + t.at)) s t.at
 
 -- all bytes up to n, or up to the first event
 pub record Ran (k : ℕ) (m : Moving) (a a' s : List ℕ) (n : ℕ) (t : Moved) : Type 0 where
@@ -186,15 +199,17 @@ pub record Ran (k : ℕ) (m : Moving) (a a' s : List ℕ) (n : ℕ) (t : Moved) 
   pub through : t.act ≡ Quiet → t.at ≡ n
   pub whole : length a' ≡ 1024
   pub says : (z : Base) → z.fed + n ≤ limit
-      → walk (see k z m a z.fed) s ≡ onward (turned k z t.act t.now t.last a' (z.fed + t.at)) s t.at
+      → walk (see k z m a z.fed) s ≡ onward (turned k z t.act t.now a' (z.fed + t.at)) s t.at
 
 -- the makers' results, whole
+abbrev pub stayed : Moving → ℕ → Moved
+stayed m at = record { now = m; act = Quiet; at = at }
+
 abbrev pub went : Moving → ℕ → ℕ → Moved
 went m p at =
     record {
       now = moving_of p m.id m.c1 m.c2 m.len m.outside (m.pending + 1);
       act = Quiet;
-      last = 0;
       at = at;
     }
 
@@ -203,7 +218,6 @@ passed m at =
     record {
       now = moving_of 0 m.id m.c1 m.c2 m.len (m.outside + 2) 0;
       act = Quiet;
-      last = 0;
       at = at;
     }
 
@@ -212,15 +226,13 @@ opened m b at =
     record {
       now = moving_of 2 b m.c1 m.c2 0 m.outside (m.pending + 1);
       act = Quiet;
-      last = 0;
       at = at;
     }
 
-abbrev pub shut : Moving → Act → ℕ → ℕ → Moved
-shut m x b at =
+abbrev pub shut : Moving → Act → ℕ → Moved
+shut m x at =
     record {
       now = moving_of m.place m.id m.c1 m.c2 m.len m.outside (m.pending + 1);
       act = x;
-      last = b;
       at = at;
     }

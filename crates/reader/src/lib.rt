@@ -4,14 +4,17 @@
 
 ghost use Rattle.std.specs.Prelude.{false, List, ◌≡◌, ℕ, ◌+◌, ◌-◌, ◌<◌, ◌≤◌, length, take};
 ghost use Rattle.std.proofs.Math.Option.{Option};
+ghost use Rattle.refusals.specs.Numbers.{code};
 ghost use Rattle.line.specs.Frame.{mode_of, judge as judgeOf};
 ghost use Rattle.line.specs.Record.{limit, Kept};
 ghost use Rattle.record.specs.Posts.{InPlacePost};
-ghost use Rattle.reader.specs.Moving.{moving_of, Skips, Copied, Fills, Fits, Pends, Sound, Moves, Goes, Ran, Busy, went, passed, opened, shut as shutOf, start_of, turned, base_of};
-ghost use Rattle.reader.specs.Closing.{Finishes, head_with, resumed, reopened_by, concluded_by, concluded, refused_by, given_by};
+ghost use Rattle.reader.specs.Moving.{moving_of, Skips, Copied, Fills, Fits, Taken, Held, Sound, Moves, Goes, Ran, Busy, stayed, went, passed, opened, shut as shutOf, start_of, turned, base_of};
+ghost use Rattle.reader.specs.Closing.{Finishes, head_with, resumed, reopened_by, dismissed, concluded, refused_by, given_by};
 
+use checksum::SumBytes;
 use latest::Latest;
 use record::{Count, Event, Head, InPlace, Reader};
+use refusals::Refusal;
 
 // The numbers that move in a slice call.
 #[derive(Clone, Copy)]
@@ -29,8 +32,9 @@ pub struct Moving {
 #[derive(Clone, Copy)]
 pub enum Act {
     Quiet,
-    Refused(u8),
-    Reopened(u8),
+    Refused(Refusal),
+    // A frame was open, and the byte is the identifier of another.
+    Reopened(Refusal, u8),
     Ended,
 }
 
@@ -38,7 +42,6 @@ pub enum Act {
 pub struct Moved {
     pub now: Moving,
     pub act: Act,
-    pub last: u8,
     pub at: usize,
 }
 
@@ -55,13 +58,13 @@ fn moving_of(
     ensures { result ≡ moving_of place id c1 c2 len outside pending }
 {
     Moving {
-        place: place,
-        id: id,
-        c1: c1,
-        c2: c2,
-        len: len,
-        outside: outside,
-        pending: pending,
+        place,
+        id,
+        c1,
+        c2,
+        len,
+        outside,
+        pending,
     }
 }
 
@@ -70,7 +73,7 @@ fn span(fed: Count, n: usize) -> usize
     ensures { (result ≤ n) × (fed + result ≤ limit) × (result < n → fed + result ≡ limit) }
 {
     let most = (Reader::LIMIT - fed) as usize;
-    if most < n { most } else { n }
+    most.min(n)
 }
 
 // Where the array's room, or n, ends.
@@ -79,11 +82,7 @@ fn bound(len: usize, from: usize, n: usize) -> usize
     requires from_le_n { from ≤ n }
     ensures { (from ≤ result) × (result ≤ n) × (len + (result - from) ≤ 1024) × (result < n → len + (result - from) ≡ 1024) }
 {
-    if Reader::CAPACITY - len < n - from {
-        from + (Reader::CAPACITY - len)
-    } else {
-        n
-    }
+    from + (Reader::CAPACITY - len).min(n - from)
 }
 
 // The first DLE from a place on, or n.
@@ -91,14 +90,10 @@ fn skip(s: &[u8], from: usize, n: usize) -> usize
     requires { (from ≤ n) × (n ≤ length s.now) }
     ensures { Skips s.now from n result }
 {
-    let mut at = from;
-    while at < n {
-        if s[at] == Reader::DLE {
-            return at;
-        }
-        at = at + 1;
+    match s[from..n].iter().position(|b| *b == Reader::DLE) {
+        Some(passed) => from + passed,
+        None => n,
     }
-    at
 }
 
 // Stores bytes four at a time, as long as none of the four is DLE.
@@ -109,11 +104,8 @@ fn fill_fours(d: &mut [u8; Reader::CAPACITY], len: usize, s: &[u8], from: usize)
     let mut at = from;
     while stuffing::four_plain(s, at) {
         let to = len + (at - from);
-        d[to] = s[at];
-        d[to + 1] = s[at + 1];
-        d[to + 2] = s[at + 2];
-        d[to + 3] = s[at + 3];
-        at = at + 4;
+        d[to..to + 4].copy_from_slice(&s[at..at + 4]);
+        at += 4;
     }
     at
 }
@@ -124,16 +116,25 @@ fn fill(d: &mut [u8; Reader::CAPACITY], len: usize, s: &[u8], from: usize, n: us
     ensures { Fills d.old d.new len s.now from n result }
 {
     let most = bound(len, from, n);
-    let mut at = fill_fours(d, len, &s[..most], from);
-    while at < most {
+    for at in fill_fours(d, len, &s[..most], from)..most {
         let b = s[at];
         if b == Reader::DLE {
             return at;
         }
         d[len + (at - from)] = b;
-        at = at + 1;
     }
-    at
+    most
+}
+
+// Nothing is left to do.
+fn quiet(now: Moving, at: usize) -> Moved
+    ensures { result ≡ stayed now at }
+{
+    Moved {
+        now,
+        act: Act::Quiet,
+        at,
+    }
 }
 
 // The byte is pending, and the place is p.
@@ -142,12 +143,7 @@ fn go(m: Moving, p: u8, at: usize) -> Moved
     ensures { result ≡ went m p at }
 {
     let n = moving_of(p, m.id, m.c1, m.c2, m.len, m.outside, m.pending + 1);
-    Moved {
-        now: n,
-        act: Act::Quiet,
-        last: 0,
-        at: at,
-    }
+    quiet(n, at)
 }
 
 // Two bytes stay outside.
@@ -156,12 +152,7 @@ fn pass_by(m: Moving, at: usize) -> Moved
     ensures { result ≡ passed m at }
 {
     let n = moving_of(Reader::W, m.id, m.c1, m.c2, m.len, m.outside + 2, 0);
-    Moved {
-        now: n,
-        act: Act::Quiet,
-        last: 0,
-        at: at,
-    }
+    quiet(n, at)
 }
 
 // A frame opens.
@@ -170,26 +161,16 @@ fn begin(m: Moving, b: u8, at: usize) -> Moved
     ensures { result ≡ opened m b at }
 {
     let n = moving_of(Reader::F, b, m.c1, m.c2, 0, m.outside, m.pending + 1);
-    Moved {
-        now: n,
-        act: Act::Quiet,
-        last: 0,
-        at: at,
-    }
+    quiet(n, at)
 }
 
 // The byte is pending, and the act closes the frame.
-fn shut(m: Moving, act: Act, b: u8, at: usize) -> Moved
+fn shut(m: Moving, act: Act, at: usize) -> Moved
     requires { m.pending < limit }
-    ensures { result ≡ shutOf m act b at }
+    ensures { result ≡ shutOf m act at }
 {
     let n = moving_of(m.place, m.id, m.c1, m.c2, m.len, m.outside, m.pending + 1);
-    Moved {
-        now: n,
-        act: act,
-        last: b,
-        at: at,
-    }
+    Moved { now: n, act, at }
 }
 
 // W: bytes outside, up to a DLE.
@@ -202,20 +183,16 @@ fn in_w(m: Moving, s: &[u8], at: usize, n: usize) -> Moved
     let outside = m.outside + (to - at) as Count;
     let w = moving_of(m.place, m.id, m.c1, m.c2, m.len, outside, m.pending);
     if to < n {
-        return go(w, Reader::WD, to + 1);
-    }
-    Moved {
-        now: w,
-        act: Act::Quiet,
-        last: 0,
-        at: to,
+        go(w, Reader::WD, to + 1)
+    } else {
+        quiet(w, to)
     }
 }
 
 // WD: an identifier opens a frame, a service code does not.
 fn in_wd(m: Moving, b: u8, at: usize, n: usize) -> Moved
-    requires le_at { (1 ≤ at) × (at ≤ n) × (m.place ≡ 1) × (m.pending ≡ 1) }
-    requires fits { Fits m (at - 1) n }
+    requires taken { Taken m at n 1 }
+    requires pending { m.pending ≡ 1 }
     ensures { (k : ℕ) (a : List ℕ) → length a ≡ 1024 → Moves k m a a b at n result }
 {
     match b {
@@ -226,7 +203,8 @@ fn in_wd(m: Moving, b: u8, at: usize, n: usize) -> Moved
 
 // F: bytes of data, up to a DLE or one too many.
 fn in_f(m: Moving, d: &mut [u8; Reader::CAPACITY], s: &[u8], at: usize, n: usize) -> Moved
-    requires at_lt_n { (at < n) × (n ≤ length s.now) × (m.place ≡ 2) × (length d.old ≡ 1024) × Pends m d.old }
+    requires at_lt_n { (at < n) × (n ≤ length s.now) × (m.place ≡ 2) }
+    requires held { Held m d.old }
     requires fits { Fits m at n }
     ensures { (k : ℕ) → Goes k m d.old d.new s.now at n result }
 {
@@ -245,22 +223,19 @@ fn in_f(m: Moving, d: &mut [u8; Reader::CAPACITY], s: &[u8], at: usize, n: usize
     if to < n {
         let b = s[to];
         if b == Reader::DLE {
-            return go(w, Reader::FD, to + 1);
+            go(w, Reader::FD, to + 1)
+        } else {
+            shut(w, Act::Refused(Refusal::TooLong), to + 1)
         }
-        return shut(w, Act::Refused(refusals::TOO_LONG), b, to + 1);
-    }
-    Moved {
-        now: w,
-        act: Act::Quiet,
-        last: 0,
-        at: to,
+    } else {
+        quiet(w, to)
     }
 }
 
 // FD: a DLE of the data, an end, a checksum, or the start of another frame.
 fn in_fd(mode: u8, m: Moving, d: &mut [u8; Reader::CAPACITY], b: u8, at: usize, n: usize) -> Moved
-    requires le_at { (1 ≤ at) × (at ≤ n) × (m.place ≡ 3) × (length d.old ≡ 1024) × Pends m d.old }
-    requires fits { Fits m (at - 1) n }
+    requires taken { Taken m at n 3 }
+    requires held { Held m d.old }
     ensures moves { Moves mode m d.old d.new b at n result }
     ensures d_len { length d.new ≡ 1024 }
 {
@@ -272,28 +247,27 @@ fn in_fd(mode: u8, m: Moving, d: &mut [u8; Reader::CAPACITY], b: u8, at: usize, 
                 let w = moving_of(m.place, m.id, m.c1, m.c2, k + 1, m.outside, m.pending);
                 go(w, Reader::F, at)
             } else {
-                shut(m, Act::Refused(refusals::TOO_LONG), b, at)
+                shut(m, Act::Refused(Refusal::TooLong), at)
             }
         }
         Reader::ETX => if mode == 0 {
-            shut(m, Act::Ended, b, at)
+            shut(m, Act::Ended, at)
         } else {
-            shut(m, Act::Refused(refusals::SUM_MISSING), b, at)
+            shut(m, Act::Refused(Refusal::SumMissing), at)
         },
         Reader::SUM => if mode == 0 {
-            shut(m, Act::Refused(refusals::SUM_UNEXPECTED), b, at)
+            shut(m, Act::Refused(Refusal::SumUnexpected), at)
         } else {
             go(m, Reader::C0, at)
         },
-        0..=2 | 4..=15 | 17..=254 => shut(m, Act::Reopened(refusals::CUT), b, at),
+        0..=2 | 4..=15 | 17..=254 => shut(m, Act::Reopened(Refusal::Cut, b), at),
     }
 }
 
 // C0: the first byte of the checksum.
 fn in_c0(m: Moving, b: u8, at: usize, n: usize) -> Moved
-    requires le_at { (1 ≤ at) × (at ≤ n) × (m.place ≡ 4) }
-    requires fits { Fits m (at - 1) n }
-    ensures { (k : ℕ) (a : List ℕ) → length a ≡ 1024 → Pends m a → Moves k m a a b at n result }
+    requires { Taken m at n 4 }
+    ensures { (k : ℕ) (a : List ℕ) → Held m a → Moves k m a a b at n result }
 {
     let w = moving_of(m.place, m.id, b, m.c2, m.len, m.outside, m.pending);
     go(w, Reader::C1, at)
@@ -301,9 +275,8 @@ fn in_c0(m: Moving, b: u8, at: usize, n: usize) -> Moved
 
 // C1: the second byte of the checksum.
 fn in_c1(m: Moving, b: u8, at: usize, n: usize) -> Moved
-    requires le_at { (1 ≤ at) × (at ≤ n) × (m.place ≡ 5) }
-    requires fits { Fits m (at - 1) n }
-    ensures { (k : ℕ) (a : List ℕ) → length a ≡ 1024 → Pends m a → Moves k m a a b at n result }
+    requires { Taken m at n 5 }
+    ensures { (k : ℕ) (a : List ℕ) → Held m a → Moves k m a a b at n result }
 {
     let w = moving_of(m.place, m.id, m.c1, b, m.len, m.outside, m.pending);
     go(w, Reader::E, at)
@@ -311,27 +284,27 @@ fn in_c1(m: Moving, b: u8, at: usize, n: usize) -> Moved
 
 // E: the DLE of the end.
 fn in_e(m: Moving, b: u8, at: usize, n: usize) -> Moved
-    requires le_at { (1 ≤ at) × (at ≤ n) × (m.place ≡ 6) × (2 ≤ m.pending) }
-    requires fits { Fits m (at - 1) n }
-    ensures { (k : ℕ) (a : List ℕ) → length a ≡ 1024 → Pends m a → Moves k m a a b at n result }
+    requires taken { Taken m at n 6 }
+    requires pending { 2 ≤ m.pending }
+    ensures { (k : ℕ) (a : List ℕ) → Held m a → Moves k m a a b at n result }
 {
     if b == Reader::DLE {
         go(m, Reader::ED, at)
     } else {
-        shut(m, Act::Refused(refusals::END_MISSING), b, at)
+        shut(m, Act::Refused(Refusal::EndMissing), at)
     }
 }
 
 // ED: the end, or the start of another frame.
 fn in_ed(m: Moving, b: u8, at: usize, n: usize) -> Moved
-    requires le_at { (1 ≤ at) × (at ≤ n) × (m.place ≡ 7) × (2 ≤ m.pending) }
-    requires fits { Fits m (at - 1) n }
-    ensures { (k : ℕ) (a : List ℕ) → Sound k m a → length a ≡ 1024 → Pends m a → Moves k m a a b at n result }
+    requires taken { Taken m at n 7 }
+    requires pending { 2 ≤ m.pending }
+    ensures { (k : ℕ) (a : List ℕ) → Sound k m a → Held m a → Moves k m a a b at n result }
 {
     match b {
-        Reader::ETX => shut(m, Act::Ended, b, at),
-        Reader::DLE | Reader::SUM => shut(m, Act::Refused(refusals::END_MISSING), b, at),
-        0..=2 | 4..=15 | 17..=254 => shut(m, Act::Reopened(refusals::END_MISSING), b, at),
+        Reader::ETX => shut(m, Act::Ended, at),
+        Reader::DLE | Reader::SUM => shut(m, Act::Refused(Refusal::EndMissing), at),
+        0..=2 | 4..=15 | 17..=254 => shut(m, Act::Reopened(Refusal::EndMissing, b), at),
     }
 }
 
@@ -344,14 +317,14 @@ fn advance(
     at: usize,
     n: usize,
 ) -> Moved
-    requires at_lt_n { (at < n) × (n ≤ length s.now) × (length d.old ≡ 1024) × Pends m d.old }
+    requires at_lt_n { (at < n) × (n ≤ length s.now) }
+    requires held { Held m d.old }
     requires fits { Fits m at n × Sound mode m d.old }
     ensures { Goes mode m d.old d.new s.now at n result }
 {
     let b = s[at];
     let next = at + 1;
-    let place = m.place;
-    match place {
+    match m.place {
         Reader::W => in_w(m, s, at, n),
         Reader::WD => in_wd(m, b, next, n),
         Reader::F => in_f(m, d, s, at, n),
@@ -365,51 +338,33 @@ fn advance(
 
 // Bytes up to n, or up to the first event.
 fn run(mode: u8, m0: Moving, d: &mut [u8; Reader::CAPACITY], s: &[u8], n: usize) -> Moved
-    requires n_in_bounds { (n ≤ length s.now) × (length d.old ≡ 1024) × Pends m0 d.old }
+    requires n_in_bounds { n ≤ length s.now }
+    requires held { Held m0 d.old }
     requires fits { Fits m0 0 n × Sound mode m0 d.old }
     ensures { Ran mode m0 d.old d.new s.now n result }
 {
     let mut m = m0;
-    let mut at: usize = 0;
+    let mut at = 0;
     while at < n {
         let t = advance(mode, m, d, s, at, n);
-        let act = t.act;
-        match act {
-            Act::Quiet => {
-                m = t.now;
-                at = t.at;
-            }
-            Act::Refused(_) => {
-                return t;
-            }
-            Act::Reopened(_) => {
-                return t;
-            }
-            Act::Ended => {
-                return t;
-            }
+        if !matches!(t.act, Act::Quiet) {
+            return t;
         }
+        m = t.now;
+        at = t.at;
     }
-    Moved {
-        now: m,
-        act: Act::Quiet,
-        last: 0,
-        at: at,
-    }
+    quiet(m, at)
 }
 
 // The moving numbers of a head: a length that has no meaning is 0.
 fn start(h: Head) -> Moving
     ensures { result ≡ start_of h }
 {
-    let mut len = h.len;
-    if h.place < Reader::F {
-        len = 0;
-    }
+    let len = if h.place < Reader::F { 0 } else { h.len };
     moving_of(h.place, h.id, h.c1, h.c2, len, h.outside, h.pending)
 }
 
-// What an act comes to: the head, the answer's parts, and whether a message was given.
+// What an act comes to: the head, and the answer's parts.
 #[derive(Clone, Copy)]
 pub struct Closed {
     pub head: Head,
@@ -417,24 +372,19 @@ pub struct Closed {
     pub id: u8,
     pub len: usize,
     pub closed: Count,
-    pub keep: bool,
 }
 
 // Questions 9 to 12 of a frame that ends.
-fn judge(mode: u8, id: u8, d: &[u8], len: usize, c1: u8, c2: u8) -> u8
-    requires { len ≤ length d.now }
-    ensures { result ≡ judgeOf (mode_of mode) id (take len d.now) c1 c2 }
+fn judge(mode: u8, id: u8, body: &[u8], c1: u8, c2: u8) -> Result<(), Refusal>
+    ensures { code result ≡ judgeOf (mode_of mode) id body.now c1 c2 }
 {
-    if mode == 0 {
-        return kinds::content(id, &d[..len]);
-    }
-    let sum = checksum::sum_bytes(id, &d[..len]);
-    if c1 == sum.c1 {
-        if c2 == sum.c2 {
-            return kinds::content(id, &d[..len]);
+    if mode != 0 {
+        let sum = SumBytes { c1, c2 };
+        if checksum::sum_bytes(id, body) != sum {
+            return Err(Refusal::SumWrong);
         }
     }
-    refusals::SUM_WRONG
+    kinds::content(id, body)
 }
 
 // The head after a call, but for accepted and refused.
@@ -443,17 +393,15 @@ fn put(h: Head, m: Moving, at: usize, place: u8, id: u8, len: usize, pending: Co
     ensures { result ≡ head_with h m at place id len pending }
 {
     Head {
-        mode: h.mode,
-        place: place,
-        id: id,
+        place,
+        id,
         c1: m.c1,
         c2: m.c2,
-        len: len,
-        accepted: h.accepted,
-        refused: h.refused,
+        len,
         outside: m.outside,
-        pending: pending,
+        pending,
         fed: h.fed + at as Count,
+        ..h
     }
 }
 
@@ -462,68 +410,69 @@ fn resume(h: Head, m: Moving, at: usize) -> Closed
     requires { h.fed + at ≤ limit }
     ensures { result ≡ resumed h m at }
 {
-    let g = put(h, m, at, m.place, m.id, m.len, m.pending);
     Closed {
-        head: g,
+        head: put(h, m, at, m.place, m.id, m.len, m.pending),
         event: Event::Nothing,
         id: 0,
         len: 0,
         closed: 0,
-        keep: false,
     }
 }
 
-// A frame is refused by v, whole.
-fn dismiss(h: Head, m: Moving, at: usize, v: u8) -> Closed
+// A frame is refused, whole.
+fn dismiss(h: Head, m: Moving, at: usize, refusal: Refusal) -> Closed
     requires { (h.fed + at ≤ limit) × (h.refused + m.pending ≤ limit) }
-    ensures { result ≡ concluded_by false h m at v }
+    ensures { result ≡ dismissed h m at refusal }
 {
-    let mut g = put(h, m, at, Reader::W, m.id, m.len, 0);
-    g.refused = h.refused + m.pending;
+    let head = Head {
+        refused: h.refused + m.pending,
+        ..put(h, m, at, Reader::W, m.id, m.len, 0)
+    };
     Closed {
-        head: g,
-        event: Event::Refusal(v),
+        head,
+        event: Event::Refusal(refusal),
         id: m.id,
         len: 0,
         closed: m.pending,
-        keep: false,
     }
 }
 
-// A frame is refused by v but for its last two bytes, which open another with identifier b.
-fn reopen(h: Head, m: Moving, b: u8, at: usize, v: u8) -> Closed
+// A frame is refused but for its last two bytes, which open another with identifier b.
+fn reopen(h: Head, m: Moving, b: u8, at: usize, refusal: Refusal) -> Closed
     requires { (h.fed + at ≤ limit) × (h.refused + m.pending ≤ limit) × (2 ≤ m.pending) }
-    ensures { result ≡ reopened_by h m b at v }
+    ensures { result ≡ reopened_by h m b at refusal }
 {
-    let mut g = put(h, m, at, Reader::F, b, 0, 2);
-    g.refused = h.refused + (m.pending - 2);
+    let head = Head {
+        refused: h.refused + (m.pending - 2),
+        ..put(h, m, at, Reader::F, b, 0, 2)
+    };
     Closed {
-        head: g,
-        event: Event::Refusal(v),
+        head,
+        event: Event::Refusal(refusal),
         id: m.id,
         len: 0,
         closed: m.pending - 2,
-        keep: false,
     }
 }
 
-// A frame that ended is a message, or refused by v.
-fn conclude(h: Head, m: Moving, at: usize, v: u8) -> Closed
+// A frame that ended is a message, or refused.
+fn conclude(h: Head, m: Moving, at: usize, judged: Result<(), Refusal>) -> Closed
     requires { (h.fed + at ≤ limit) × (h.accepted + m.pending ≤ limit) × (h.refused + m.pending ≤ limit) }
-    ensures { result ≡ concluded h m at v }
+    ensures { result ≡ concluded h m at judged }
 {
-    if v != 0 {
-        return dismiss(h, m, at, v);
+    if let Err(refusal) = judged {
+        return dismiss(h, m, at, refusal);
     }
-    let mut g = put(h, m, at, Reader::W, m.id, m.len, 0);
-    g.accepted = h.accepted + m.pending;
+    let head = Head {
+        accepted: h.accepted + m.pending,
+        ..put(h, m, at, Reader::W, m.id, m.len, 0)
+    };
     Closed {
-        head: g,
+        head,
         event: Event::Message,
         id: m.id,
         len: m.len,
         closed: m.pending,
-        keep: true,
     }
 }
 
@@ -532,30 +481,29 @@ fn finish(h: Head, t: Moved, d: &[u8]) -> Closed
     requires at_bound { (h.fed + t.at ≤ limit) × (h.fed + t.at ≡ h.accepted + h.refused + t.now.outside + t.now.pending) }
     requires place_bound { (t.now.place < 8) × (t.now.len ≤ 1024) × (length d.now ≡ 1024) }
     requires busy { Busy t.act t.now }
-    ensures { (l : (Kept → Option (List ℕ))) → Finishes l (turned h.mode (base_of h l) t.act t.now t.last d.now (h.fed + t.at)) d.now result }
+    ensures { (l : (Kept → Option (List ℕ))) → Finishes l (turned h.mode (base_of h l) t.act t.now d.now (h.fed + t.at)) d.now result }
 {
     let m = t.now;
     let at = t.at;
-    let act = t.act;
-    match act {
+    match t.act {
         Act::Quiet => resume(h, m, at),
-        Act::Refused(v) => dismiss(h, m, at, v),
-        Act::Reopened(v) => reopen(h, m, t.last, at, v),
+        Act::Refused(refusal) => dismiss(h, m, at, refusal),
+        Act::Reopened(refusal, b) => reopen(h, m, b, at, refusal),
         Act::Ended => {
-            let v = judge(h.mode, m.id, d, m.len, m.c1, m.c2);
-            conclude(h, m, at, v)
+            let judged = judge(h.mode, m.id, &d[..m.len], m.c1, m.c2);
+            conclude(h, m, at, judged)
         }
     }
 }
 
 // A call that one of questions 1 to 3 refuses: the record as it was, and an answer with nothing in it.
-fn refuse(h: Head, l: Latest, v: u8) -> InPlace
-    ensures { result ≡ refused_by h l v }
+fn refuse(h: Head, l: Latest, refusal: Refusal) -> InPlace
+    ensures { result ≡ refused_by h l refusal }
 {
     InPlace {
         head: h,
         latest: l,
-        event: Event::Refusal(v),
+        event: Event::Refusal(refusal),
         id: 0,
         len: 0,
         closed: 0,
@@ -567,16 +515,14 @@ fn refuse(h: Head, l: Latest, v: u8) -> InPlace
 fn give(o: Closed, l: Latest, taken: usize) -> InPlace
     ensures { result ≡ given_by o l taken }
 {
-    let h = o.head;
-    let e = o.event;
     InPlace {
-        head: h,
+        head: o.head,
         latest: l,
-        event: e,
+        event: o.event,
         id: o.id,
         len: o.len,
         closed: o.closed,
-        taken: taken,
+        taken,
     }
 }
 
@@ -585,16 +531,14 @@ pub fn feed_in_place(h: Head, l: Latest, d: &mut [u8; Reader::CAPACITY], s: &[u8
     ensures { InPlacePost h l d.old d.new s.now result }
 {
     let m = start(h);
-    let v = questions::question(h, l, d, s.len());
-    if v != 0 {
-        return refuse(h, l, v);
+    if let Err(refusal) = questions::question(h, l, d, s.len()) {
+        return refuse(h, l, refusal);
     }
     let n = span(h.fed, s.len());
     let t = run(h.mode, m, d, s, n);
     let o = finish(h, t, d);
-    if o.keep {
-        let last = latest::store(l, o.id, d, o.len);
-        return give(o, last, t.at);
+    match o.event {
+        Event::Message => give(o, latest::store(l, o.id, d, o.len), t.at),
+        Event::Nothing | Event::Refusal(_) => give(o, l, t.at),
     }
-    give(o, l, t.at)
 }

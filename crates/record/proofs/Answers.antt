@@ -1,7 +1,5 @@
 -- The parts of an answer and the event that they are: one determines the other.
-use mathlib.Core.List.{[]}
-use mathlib.Core.Path.{◌≡◌, refl, sym, ap, ◌∙◌}
-use Prim.Native.Nat.{ℕ}
+use Rattle.std.proofs.Common.{[], ◌≡◌, refl, sym, ap, ◌∙◌, ℕ}
 use Rattle.line.specs.Table.{Event}
 use Rattle.line.specs.Table.Event.{nothing, message, refusal}
 use Rattle.record.specs.View.{Parts, shown, said}

@@ -1,6 +1,7 @@
 -- Document 01, "The step table" and "Questions, in order" (1 to 3): what a fresh reader, a step, a slice call and a slice call in place
 -- return and leave, on the record in memory.
-use Rattle.std.specs.Prelude.{false, cond, List, ◌≡◌, ℕ, ◌≤◌, ◌<◌, ltb, length, replicate}
+use Rattle.std.specs.Prelude.{cond, List, None, ◌≡◌, ℕ, ◌≤◌, ◌<◌, ltb, length, replicate}
+use Rattle.refusals.specs.Numbers.{why}
 use Rattle.line.specs.Table.Event.{refusal}
 use Rattle.line.specs.Record.{Asked, fresh, stepped, event_of, walk}
 use Rattle.line.specs.Record.Fresh.{made}
@@ -18,25 +19,13 @@ abbrev pub blank_record : ℕ → Reader
 blank_record m =
     record {
       head = record { mode = m; place = 0; id = 0; c1 = 0; c2 = 0; len = 0; accepted = 0; refused = 0; outside = 0; pending = 0; fed = 0 };
-      latest =
-          record {
-            has43 = false;
-            d43 = replicate 6 0;
-            has46 = false;
-            d46 = replicate 10 0;
-            has4a = false;
-            d4a = replicate 33 0;
-            has4b = false;
-            d4b = replicate 42 0;
-            haseb = false;
-            deb = replicate 26 0;
-          };
+      latest = record { d43 = None; d46 = None; d4a = None; d4b = None; deb = None };
       bytes = replicate 1024 0;
     }
 
 pub record FreshPost (m : ℕ) (x : Fresh) : Type 0 where
-  pub good : m ≤ 1 → (x.refusal ≡ 0) × (fresh m ≡ made (view x.reader))
-  pub bad : 1 < m → x.refusal ≡ 1
+  pub good : m ≤ 1 → (why x.refusal ≡ 0) × (fresh m ≡ made (view x.reader))
+  pub bad : 1 < m → why x.refusal ≡ 1
   -- the record, whole: of mode 0 or 1 it is the fresh one, else a stand-in, which question 1 refuses
   pub whole : x.reader ≡ blank_record m
 

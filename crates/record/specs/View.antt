@@ -10,8 +10,8 @@ use Rattle.latest.specs.declared.Latest.{Latest}
 use Rattle.record.specs.declared.Head.{Head}
 use Rattle.record.specs.declared.Reader.{Reader}
 use Rattle.record.specs.declared.Answer.{Answer}
-use Rattle.record.specs.declared.Event.{Event}
-use Rattle.record.specs.declared.Event.TheVariants.{Nothing, Message, Refusal}
+use Rattle.refusals.specs.Numbers.{number}
+use Rattle.record.specs.declared.Event.{Event as Held}
 
 -- the places are numbered 0 to 7 in the paper's order
 unfoldable pub place_of : ℕ → ℕ → List ℕ → ℕ → ℕ → Place
@@ -45,6 +45,23 @@ view r =
       latest = latest_of r.latest;
     }
 
+-- an event of an answer, by the paper's number
+pub data Event : Type 0 where
+  Nothing : Event
+  Message : Event
+  Refusal : ℕ → Event
+
+abbrev pub told : Held → Event
+told Held.Nothing = Event.Nothing
+told Held.Message = Event.Message
+told (Held.Refusal r) = Event.Refusal (number r)
+
+-- the number by which it refuses, 0 where it does not
+abbrev pub event_number : Event → ℕ
+event_number Event.Nothing = 0
+event_number Event.Message = 0
+event_number (Event.Refusal v) = v
+
 -- the four parts of an answer: event with number, identifier, data, bytes closed
 pub record Parts : Type 0 where
   pub event : Event
@@ -53,19 +70,19 @@ pub record Parts : Type 0 where
   pub closed : ℕ
 
 abbrev pub parts_of : Answer → Parts
-parts_of a = record { event = a.event; id = a.id; body = first_bytes a.len a.bytes; closed = a.closed }
+parts_of a = record { event = told a.event; id = a.id; body = first_bytes a.len a.bytes; closed = a.closed }
 
 -- what they are for each event of the paper: with "nothing yet" 0 and empty, with a refusal no data
 abbrev pub shown : Said → Parts
-shown nothing = record { event = Nothing; id = 0; body = []; closed = 0 }
-shown (message id d n) = record { event = Message; id = id; body = d; closed = n }
-shown (refusal v id n) = record { event = Refusal v; id = id; body = []; closed = n }
+shown nothing = record { event = Event.Nothing; id = 0; body = []; closed = 0 }
+shown (message id d n) = record { event = Event.Message; id = id; body = d; closed = n }
+shown (refusal v id n) = record { event = Event.Refusal v; id = id; body = []; closed = n }
 
 -- the event of the paper that these parts are: its number and values in each case of the answer's enum
 abbrev pub said_by : Event → ℕ → List ℕ → ℕ → Said
-said_by Nothing id d n = nothing
-said_by Message id d n = message id d n
-said_by (Refusal v) id d n = refusal v id n
+said_by Event.Nothing id d n = nothing
+said_by Event.Message id d n = message id d n
+said_by (Event.Refusal v) id d n = refusal v id n
 
 abbrev pub said : Parts → Said
 said p = said_by p.event p.id p.body p.closed

@@ -2,15 +2,18 @@
 #![tactic(auto)]
 
 ghost use Rattle.std.specs.Prelude.{◌≡◌};
+ghost use Rattle.refusals.specs.Numbers.{why};
+ghost use Rattle.record.specs.View.{told, event_number};
 ghost use Rattle.record.specs.Posts.{FreshPost, blank_record};
 
 use latest::Latest;
+use refusals::Refusal;
 
 // A count of bytes.
 pub type Count = u64;
 
 // The numbers of the record. Mode and place are numbers, so that a wrong one can be refused.
-#[derive(Clone, Copy)]
+#[derive(Clone, Copy, Debug, PartialEq, Eq)]
 pub struct Head {
     pub mode: u8,
     pub place: u8,
@@ -25,23 +28,35 @@ pub struct Head {
     pub fed: Count,
 }
 
-#[derive(Clone, Copy)]
+#[derive(Clone, Copy, Debug, PartialEq, Eq)]
 pub struct Reader {
     pub head: Head,
     pub latest: Latest,
     pub bytes: [u8; Reader::CAPACITY],
 }
 
-// Nothing yet, a message, or a refusal by its number.
-#[derive(Clone, Copy)]
+// Nothing yet, a message, or a refusal.
+#[derive(Clone, Copy, Debug, PartialEq, Eq)]
 pub enum Event {
     Nothing,
     Message,
-    Refusal(u8),
+    Refusal(Refusal),
+}
+
+impl Event {
+    // Why the call or the frame was refused, if it was.
+    pub fn refusal(self) -> Option<Refusal>
+        ensures { why result ≡ event_number (told self) }
+    {
+        match self {
+            Event::Refusal(refusal) => Some(refusal),
+            _ => None,
+        }
+    }
 }
 
 // A message's data are the first `len` bytes.
-#[derive(Clone, Copy)]
+#[derive(Clone, Copy, Debug, PartialEq, Eq)]
 pub struct Answer {
     pub event: Event,
     pub id: u8,
@@ -51,21 +66,21 @@ pub struct Answer {
 }
 
 // A fresh reader, or refusal 1 beside a blank record.
-#[derive(Clone, Copy)]
+#[derive(Clone, Copy, Debug, PartialEq, Eq)]
 pub struct Fresh {
-    pub refusal: u8,
+    pub refusal: Option<Refusal>,
     pub reader: Reader,
 }
 
 // What a single step returns: the record afterwards, and the answer.
-#[derive(Clone, Copy)]
+#[derive(Clone, Copy, Debug, PartialEq, Eq)]
 pub struct Stepped {
     pub reader: Reader,
     pub answer: Answer,
 }
 
 // What a slice call returns: the same, and how many bytes it took.
-#[derive(Clone, Copy)]
+#[derive(Clone, Copy, Debug, PartialEq, Eq)]
 pub struct Fed {
     pub reader: Reader,
     pub answer: Answer,
@@ -73,7 +88,7 @@ pub struct Fed {
 }
 
 // What a slice call returns that has the record's array lent: the record but for its array, the answer but for its data.
-#[derive(Clone, Copy)]
+#[derive(Clone, Copy, Debug, PartialEq, Eq)]
 pub struct InPlace {
     pub head: Head,
     pub latest: Latest,
@@ -122,7 +137,7 @@ impl Reader {
         ensures { result ≡ blank_record mode }
     {
         let head = Head {
-            mode: mode,
+            mode,
             place: Reader::W,
             id: 0,
             c1: 0,
@@ -135,22 +150,17 @@ impl Reader {
             fed: 0,
         };
         let latest = Latest {
-            has43: false,
-            d43: [0u8; kinds::LENGTH_43],
-            has46: false,
-            d46: [0u8; kinds::LENGTH_46],
-            has4a: false,
-            d4a: [0u8; kinds::LENGTH_4A],
-            has4b: false,
-            d4b: [0u8; kinds::LENGTH_4B],
-            haseb: false,
-            deb: [0u8; kinds::LENGTH_EB],
+            d43: None,
+            d46: None,
+            d4a: None,
+            d4b: None,
+            deb: None,
         };
         let bytes = [0u8; Reader::CAPACITY];
         Reader {
-            head: head,
-            latest: latest,
-            bytes: bytes,
+            head,
+            latest,
+            bytes,
         }
     }
 
@@ -158,16 +168,9 @@ impl Reader {
     pub fn fresh(mode: u8) -> Fresh
         ensures { FreshPost mode result }
     {
-        let reader = Reader::blank(mode);
-        if mode <= 1 {
-            return Fresh {
-                refusal: 0,
-                reader: reader,
-            };
-        }
         Fresh {
-            refusal: refusals::MODE,
-            reader: reader,
+            refusal: (1 < mode).then_some(Refusal::Mode),
+            reader: Reader::blank(mode),
         }
     }
 }

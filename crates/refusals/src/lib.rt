@@ -1,65 +1,101 @@
-// The numbers by which calls refuse: one for each question of document 01, in the order in which they are asked; from 14 on document 02's.
+// Why calls refuse: one refusal for each question of document 01, in the order in which they are asked; from `Unreliable` on document 02's.
 #![tactic(auto)]
 
-// The mode is neither 0 nor 1.
-pub const MODE: u8 = 1;
+ghost use Rattle.std.specs.Prelude.{◌≡◌};
+ghost use Rattle.refusals.specs.Numbers.{number, code, why};
 
-// The record is not possible.
-pub const RECORD: u8 = 2;
+// The refusals, in the order of their numbers.
+#[derive(Clone, Copy, Debug, PartialEq, Eq)]
+pub enum Refusal {
+    // The mode is neither 0 nor 1.
+    Mode = 1,
 
-// No further byte can be counted.
-pub const FULL: u8 = 3;
+    // The record is not possible.
+    Record = 2,
 
-// More data bytes than a frame may have.
-pub const TOO_LONG: u8 = 4;
+    // No further byte can be counted.
+    Full = 3,
 
-// The start of another frame came before the end.
-pub const CUT: u8 = 5;
+    // More data bytes than a frame may have.
+    TooLong = 4,
 
-// An end without a checksum, in mode 1.
-pub const SUM_MISSING: u8 = 6;
+    // The start of another frame came before the end.
+    Cut = 5,
 
-// A checksum in mode 0.
-pub const SUM_UNEXPECTED: u8 = 7;
+    // An end without a checksum, in mode 1.
+    SumMissing = 6,
 
-// No end after the checksum.
-pub const END_MISSING: u8 = 8;
+    // A checksum in mode 0.
+    SumUnexpected = 7,
 
-// The checksum does not agree.
-pub const SUM_WRONG: u8 = 9;
+    // No end after the checksum.
+    EndMissing = 8,
 
-// The identifier is not listed.
-pub const UNLISTED: u8 = 10;
+    // The checksum does not agree.
+    SumWrong = 9,
 
-// The kind does not allow this length.
-pub const LENGTH: u8 = 11;
+    // The identifier is not listed.
+    Unlisted = 10,
 
-// A field is out of range.
-pub const RANGE: u8 = 12;
+    // The kind does not allow this length.
+    Length = 11,
 
-// The lent buffer is too short.
-pub const BUFFER: u8 = 13;
+    // A field is out of range.
+    Range = 12,
 
-// The message says that its GPS time is not reliable.
-pub const UNRELIABLE: u8 = 14;
+    // The lent buffer is too short.
+    Buffer = 13,
 
-// A second is none of a week, or the weeks are too far apart.
-pub const TIME: u8 = 15;
+    // The message says that its GPS time is not reliable.
+    Unreliable = 14,
 
-// A coefficient is not finite.
-pub const NOT_FINITE: u8 = 16;
+    // A second is none of a week, or the weeks are too far apart.
+    Time = 15,
 
-// A bit of a word of satellites is no satellite's.
-pub const NO_SATELLITE: u8 = 17;
+    // A coefficient is not finite.
+    NotFinite = 16,
 
-// There is no such date, or its year or the one rolled to is outside 1999 to 65,535.
-pub const DATE: u8 = 18;
+    // A bit of a word of satellites is no satellite's.
+    NoSatellite = 17,
 
-// A list of messages is too long, or an entry of it is cut short.
-pub const LIST: u8 = 19;
+    // There is no such date, or its year or the one rolled to is outside 1999 to 65,535.
+    Date = 18,
 
-// A record of the journal does not begin with the mark.
-pub const MARK: u8 = 20;
+    // A list of messages is too long, or an entry of it is cut short.
+    List = 19,
 
-// A record of the journal is cut short.
-pub const SHORT: u8 = 21;
+    // A record of the journal does not begin with the mark.
+    Mark = 20,
+
+    // A record of the journal is cut short.
+    Short = 21,
+}
+
+impl Refusal {
+    // The number by which the documents name it.
+    pub fn number(self) -> u8
+        ensures { result ≡ number self }
+    {
+        self as u8
+    }
+}
+
+// The number of an answer: 0 where nothing refuses, else the refusal's.
+pub fn code<T>(answer: &Result<T, Refusal>) -> u8
+    ensures { result ≡ code answer.now }
+{
+    match answer {
+        Ok(_) => 0,
+        Err(refusal) => refusal.number(),
+    }
+}
+
+// The number of a refusal that there may be: 0 where there is none.
+pub fn why(refusal: Option<Refusal>) -> u8
+    ensures { result ≡ why refusal }
+{
+    match refusal {
+        None => 0,
+        Some(r) => r.number(),
+    }
+}

@@ -2,8 +2,8 @@
 use mathlib.Core.Path.{◌≡◌, refl, sym, ap, ◌∙◌}
 use mathlib.Core.Bool.{Bool, true, false, cond, ◌&&◌, and-eq-true_iff, and-false}
 use mathlib.Core.List.{List, [], ◌∷◌, ◌++◌, append_assoc}
-use Prim.Native.Nat.{ℕ, zero, suc, ◌+◌, ◌-◌, ◌*◌, ◌/◌, ◌^◌, ◌≤◌, ◌<◌}
-use native.Mathlib.Nat.{add-zero, zero-add, pow-suc}
+use Prim.Native.Nat.{ℕ, zero, suc, ◌+◌, ◌-◌, ◌*◌, ◌/◌, ◌%◌, ◌^◌, ◌≤◌, ◌<◌}
+use native.Mathlib.Nat.{add-zero, zero-add, pow-suc, div-div-eq-div-mul}
 use native.Mathlib.Numerals.{add-one}
 use native.Mathlib.Omega.{arith}
 use borrow.Author.Tests.{le-leb, lt-leb, leb-true, leb-false}
@@ -12,6 +12,8 @@ use lib.IntN.{ℤ, pos, negsuc}
 use lib.ListN.{length, take, drop, get_or, length-append, length-drop, take-append-drop}
 use lib.Pow.{pow-add}
 use lib.Seq.{drop-cons, drop-length, drop-drop, take_at, drop_at}
+use Rattle.std.specs.Int.{bytes_low_first, byte_at, to_le_bytes, w64}
+use Rattle.std.specs.Prelude.{None, Some}
 use Rattle.numbers.specs.Number.{number_of, bytes_of, number_at}
 use Rattle.octets.specs.Placing.{placed}
 use Rattle.numbers.specs.Signed.{signed, unsigned}
@@ -27,6 +29,22 @@ length_laid (n ∷ ns) [] h = absurd (omega arith)
 length_laid (n ∷ ns) (x ∷ xs) h =
     let t : length ns ≤ length xs = omega arith in
     rw (length-append (bytes_of n x) (laid ns xs), length_bytes n x, length_laid ns xs t)
+
+-- the low bytes of a word, as the language has them
+low_first : (n k i x : ℕ) → n ≤ k → take n (bytes_low_first i k x) ≡ bytes_of n (x / 256 ^ i)
+unfolding bytes_of
+low_first zero k i x h = refl
+low_first (suc n) zero i x h = absurd (omega arith)
+low_first (suc n) (suc k) i x h =
+    let more : x / 256 ^ suc i ≡ x / 256 ^ i / 256 = ap (λ (m : ℕ). x / m) (pow-suc 256 i) ∙ sym (div-div-eq-div-mul x (256 ^ i) 256) in
+    (λ j. first i j ∷ (low_first n k (suc i) x (omega arith) ∙ ap (bytes_of n) more) j)
+  where
+    first : (i : ℕ) → byte_at i x ≡ x / 256 ^ i % 256
+    first zero = let one : x ≡ x / 256 ^ 0 = omega arith in ap (λ (y : ℕ). y % 256) one
+    first (suc i) = refl
+
+pub low_bytes : (n x : ℕ) → n ≤ 8 → take n (to_le_bytes w64 x) ≡ bytes_of n x
+low_bytes n x h = low_first n 8 0 x h ∙ ap (bytes_of n) (omega arith)
 
 next : (s : List ℕ) (i : ℕ) → i < length s → drop i s ≡ get_or s i 0 ∷ drop (i + 1) s
 next s i h = rw add-one (drop-cons s i 0 h)
@@ -65,11 +83,7 @@ within_none ns room i h =
     let d : drop i ns ≡ [] = ap (λ (j : ℕ). drop j ns) h ∙ drop-length ns in
     rw (d, le-leb 0 room (omega arith)) (refl, refl)
 
--- no bytes are measured: there is no data; some are: the words pack, and the data are theirs
-empty : (l : List ℕ) → length l ≡ 0 → l ≡ []
-empty [] h = refl
-empty (x ∷ xs) h = absurd (omega arith)
-
+-- the words don't pack: there is no data; they do: the data are theirs
 module _ (ns xs : List ℕ) where
   all : packs ns (length xs) ≡ true → (length ns ≤ length xs) × (short ns ≡ true) × (total ns ≤ 130)
   unfolding packs
@@ -78,23 +92,23 @@ module _ (ns xs : List ℕ) where
       let q = (and-eq-true_iff (short ns) (leb (total ns) 130)).0 p.1 in
       (leb-true (length ns) (length xs) p.0, q.0, leb-true (total ns) 130 q.1)
 
-  pub packed_none : 0 ≡ cond (packs ns (length xs)) (total ns) 0 → packed ns xs ≡ []
+  pub packed_none : None ≡ cond (packs ns (length xs)) (Some (total ns)) None → packed ns xs ≡ []
   unfolding packed
-  packed_none h = by (packs ns (length xs)) refl h
+  packed_none h = by (packs ns (length xs)) h
     where
-      by : (b : Bool) → packs ns (length xs) ≡ b → 0 ≡ cond b (total ns) 0 → cond b (laid ns xs) [] ≡ []
-      by true e h = empty (laid ns xs) (length_laid ns xs (all e).0 ∙ sym h)
-      by false e h = refl
+      by : (b : Bool) → None ≡ cond b (Some (total ns)) None → cond b (laid ns xs) [] ≡ []
+      by true h = let z : ◌≡◌ {A = ℕ} 0 1 = cc in absurd (omega arith)
+      by false h = refl
 
-  pub packed_some : (n : ℕ) → n ≡ cond (packs ns (length xs)) (total ns) 0 → (n ≡ 0 → ⊥)
+  pub packed_some : (n : ℕ) → Some n ≡ cond (packs ns (length xs)) (Some (total ns)) None
       → (packed ns xs ≡ laid ns xs) × (length ns ≤ length xs) × (short ns ≡ true) × (total ns ≡ n) × (n ≤ 130)
   unfolding packed
-  packed_some n h z = by (packs ns (length xs)) refl h
+  packed_some n h = by (packs ns (length xs)) refl h
     where
-      by : (b : Bool) → packs ns (length xs) ≡ b → n ≡ cond b (total ns) 0
+      by : (b : Bool) → packs ns (length xs) ≡ b → Some n ≡ cond b (Some (total ns)) None
           → (cond b (laid ns xs) [] ≡ laid ns xs) × (length ns ≤ length xs) × (short ns ≡ true) × (total ns ≡ n) × (n ≤ 130)
-      by true e h = let p = all e in (refl, p.0, p.1, sym h, omega (arith, p.2))
-      by false e h = absurd (z h)
+      by true e h = let p = all e in let t : total ns ≡ n = cc in (refl, p.0, p.1, t, omega (arith, p.2))
+      by false e h = let z : ◌≡◌ {A = ℕ} 0 1 = cc in absurd (omega arith)
 
 -- the bytes of the words, read back from in front of others
 pub read_back : (ns xs l rest : List ℕ) (n : ℕ) → length ns ≤ length xs → total ns ≡ n → l ≡ laid ns xs

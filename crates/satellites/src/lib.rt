@@ -10,8 +10,11 @@ ghost use Rattle.satellites.specs.Sets.{bit, with_bit};
 pub fn satellite(system: u8, number: u8) -> bool
     ensures { result ≡ satellite system number }
 {
-    ((system == 1) & ((1 <= number) & (number <= 32)))
-        | ((system == 2) & ((1 <= number) & (number <= 24)))
+    match system {
+        1 => (1..=32).contains(&number),
+        2 => (1..=24).contains(&number),
+        _ => false,
+    }
 }
 
 // The place of a satellite among the 56: 0 to 31 of system 1, 32 to 55 of system 2. 56 where there is no such satellite.
@@ -19,9 +22,10 @@ pub fn place(system: u8, number: u8) -> u64
     ensures { result ≡ cond (satellite system number) (place_of system number) 56 }
 {
     if satellite(system, number) {
-        return 32 * (system as u64 - 1) + (number as u64 - 1);
+        32 * (u64::from(system) - 1) + (u64::from(number) - 1)
+    } else {
+        56
     }
-    56
 }
 
 // Whether the satellite at a place is in a set, which a word of 64 bits is. Past the word's end there is none.
@@ -48,12 +52,12 @@ pub fn insert(set: u64, place: u64) -> u64
 pub fn visible(system: u8, number: u8) -> bool
     ensures { result ≡ visible system number }
 {
-    satellite(system, number) | ((system == 4) & ((120 <= number) & (number <= 158)))
+    satellite(system, number) || (system == 4 && (120..=158).contains(&number))
 }
 
 // A carrier number of GLONASS.
 pub fn carrier(number: i8) -> bool
     ensures { result ≡ carrier number }
 {
-    (-7 <= number) & (number <= 13)
+    (-7..=13).contains(&number)
 }

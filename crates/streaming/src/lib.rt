@@ -2,43 +2,45 @@
 #![tactic(auto)]
 
 ghost use Rattle.std.specs.Prelude.{true, ◌≡◌, ◌≤◌, length};
+ghost use Rattle.refusals.specs.Numbers.{why};
 ghost use Rattle.record.specs.View.{view};
 ghost use Rattle.listing.specs.Text.{longest_event};
 ghost use Rattle.lister.specs.Posts.{Good};
-ghost use Rattle.streaming.specs.Posts.{Moved, ChunkPost, ReadsPost, TotalPost, ListedPost, unread_of};
+ghost use Rattle.streaming.specs.Posts.{Moved, read_number, ChunkPost, ReadsPost, TotalPost, ListedPost, unread_of};
 
 use listing::LONGEST_TOTAL;
 use record::Reader;
+use refusals::Refusal;
 use std::env::{Env, FillError};
 use std::io::{Error, ErrorKind, Read, Stdin, Write};
 
-// The reader after a chunk, 3 where a byte of it can't be counted, and whether its lines were written.
+// The reader after a chunk, the refusal where a byte of it can't be counted, and whether its lines were written.
 #[derive(Clone, Copy)]
 pub struct Chunk {
     pub reader: Reader,
-    pub refusal: u8,
+    pub refusal: Option<Refusal>,
     pub written: bool,
 }
 
-// The same after the last chunk, with how many bytes the reads brought, and what the last one answered. Where a byte of the last can't
-// be counted, its bytes are `rest`, since 64 bits may not hold the sum; else there are none.
+// The same after the last chunk, with how many bytes the reads brought, and what the last one answered: none of an error. Where a byte
+// of the last can't be counted, its bytes are `rest`, since 64 bits may not hold the sum; else there are none.
 #[derive(Clone, Copy)]
 pub struct Reads {
     pub chunk: Chunk,
     pub read: usize,
     pub rest: usize,
-    pub last: isize,
+    pub last: Option<usize>,
 }
 
 // How a listing ended: the same, with the total. `written` says whether it was written too.
 #[derive(Clone, Copy)]
 pub struct Ended {
     pub reader: Reader,
-    pub refusal: u8,
+    pub refusal: Option<Refusal>,
     pub written: bool,
     pub read: usize,
     pub rest: usize,
-    pub last: isize,
+    pub last: Option<usize>,
     pub total: [u8; LONGEST_TOTAL],
     pub length: usize,
 }
@@ -49,30 +51,30 @@ fn list_chunk(r: Reader, s: &[u8], lines: &mut [u8]) -> Chunk
     ensures { ChunkPost r s.now result }
 {
     let mut g = r;
-    let mut at: usize = 0;
-    while at < s.len() {
-        let p = lister::list_part(g, &s[at..], lines);
-        let n = p.length;
-        if !io::write_all(1, &lines[..n]) {
+    let mut rest = s;
+    'parts: while !rest.is_empty() {
+        let p = lister::list_part(g, rest, lines);
+        if !io::write_all(1, &lines[..p.length]) {
             return Chunk {
                 reader: r,
-                refusal: 0,
+                refusal: None,
                 written: false,
             };
         }
         g = p.reader;
-        if p.taken == 0 {
+        let done = p.taken == 0;
+        if done {
             return Chunk {
                 reader: g,
                 refusal: p.refusal,
                 written: true,
             };
         }
-        at += p.taken;
+        rest = &rest[p.taken..];
     }
     Chunk {
         reader: g,
-        refusal: 0,
+        refusal: None,
         written: true,
     }
 }
@@ -81,12 +83,10 @@ fn list_chunk(r: Reader, s: &[u8], lines: &mut [u8]) -> Chunk
 fn reason_length(text: &[u8]) -> usize
     ensures { result ≤ length text.now }
 {
-    for n in 0..text.len() {
-        if text[n..].starts_with(b" (os error ") {
-            return n;
-        }
-    }
-    text.len()
+    let number: &[u8] = b" (os error ";
+    text.windows(number.len())
+        .position(|w| w == number)
+        .unwrap_or(text.len())
 }
 
 // An input that could not be read to its end does not look like one that was.
@@ -100,19 +100,19 @@ fn say_error(error: Error) {
     io::write_all(2, b"\n");
 }
 
-// Reads once, and again where a signal interrupted it. A read that fails is said, and answered by -1.
-fn read_some(input: Stdin, bytes: &mut [u8]) -> isize
-    ensures { Moved (length bytes.old) result }
+// Reads once, and again where a signal interrupted it. A read that fails is said, and answered by none.
+fn read_some(input: Stdin, bytes: &mut [u8]) -> Option<usize>
+    ensures { Moved (length bytes.old) (read_number result) }
 {
     let mut input = input;
     let mut turns = u64::MAX;
     loop {
         match input.read(bytes) {
-            Ok(n) => return n as isize,
+            Ok(n) => return Some(n),
             Err(e) => {
                 if e.kind() != ErrorKind::Interrupted || turns == 0 {
                     say_error(e);
-                    return -1;
+                    return None;
                 }
             }
         }
@@ -122,39 +122,39 @@ fn read_some(input: Stdin, bytes: &mut [u8]) -> isize
 
 // Lists what each read brings, until one brings nothing. Before the first, nothing is read or written.
 fn list_reads(input: Stdin, first: Chunk) -> Reads
-    requires { Good first.reader × (first.reader.head.fed ≡ 0) × (first.refusal ≡ 0) }
+    requires { Good first.reader × (first.reader.head.fed ≡ 0) × (why first.refusal ≡ 0) }
     ensures { ReadsPost (view first.reader) result }
 {
     let mut c = first;
     let mut bytes = io::large_buffer();
     let mut lines = io::large_buffer();
-    let mut read: usize = 0;
+    let mut read = 0;
     loop {
         let got = read_some(input, &mut bytes);
-        let ended = got <= 0;
+        let n = got.unwrap_or(0);
+        let ended = n == 0;
         if ended {
             return Reads {
                 chunk: c,
-                read: read,
+                read,
                 rest: 0,
                 last: got,
             };
         }
-        let n = io::count(got, &bytes);
         c = list_chunk(c.reader, &bytes[..n], &mut lines);
         if !c.written {
             return Reads {
                 chunk: c,
-                read: read,
+                read,
                 rest: 0,
                 last: got,
             };
         }
-        let refused = c.refusal != 0;
+        let refused = c.refusal.is_some();
         if refused {
             return Reads {
                 chunk: c,
-                read: read,
+                read,
                 rest: n,
                 last: got,
             };
@@ -174,10 +174,7 @@ fn say_cut(written: bool) {
 fn write_on(written: bool, s: &[u8]) -> bool
     ensures { result ≡ true → written ≡ true }
 {
-    if !written {
-        return false;
-    }
-    io::write_all(1, s)
+    written && io::write_all(1, s)
 }
 
 // Prints the total of the reader after all reads.
@@ -185,37 +182,34 @@ fn print_total(x: Reads) -> Ended
     ensures { TotalPost x result }
 {
     let c = x.chunk;
-    let r = c.reader;
     let mut total = [0u8; LONGEST_TOTAL];
-    let w = listing::list_total(r, &mut total);
-    let n = w.length;
+    let n = listing::list_total(c.reader, &mut total).unwrap();
     let written = write_on(c.written, &total[..n]);
     say_cut(written);
     Ended {
-        reader: r,
+        reader: c.reader,
         refusal: c.refusal,
-        written: written,
+        written,
         read: x.read,
         rest: x.rest,
         last: x.last,
-        total: total,
+        total,
         length: n,
     }
 }
 
 // A mode that has no reader: nothing is read, and nothing was to be written.
-fn unread(r: Reader, refusal: u8) -> Ended
+fn unread(r: Reader, refusal: Refusal) -> Ended
     ensures { result ≡ unread_of r refusal }
 {
-    let total = [0u8; LONGEST_TOTAL];
     Ended {
         reader: r,
-        refusal: refusal,
+        refusal: Some(refusal),
         written: true,
         read: 0,
         rest: 0,
-        last: 0,
-        total: total,
+        last: Some(0),
+        total: [0u8; LONGEST_TOTAL],
         length: 0,
     }
 }
@@ -251,14 +245,13 @@ pub fn list_input(rt: HostRuntime, mode: u8) -> Ended
     ensures { ListedPost mode result }
 {
     let f = Reader::fresh(mode);
-    let r = f.reader;
-    if f.refusal != 0 {
-        return unread(r, f.refusal);
+    if let Some(refusal) = f.refusal {
+        return unread(f.reader, refusal);
     }
     say_arguments(rt);
     let first = Chunk {
-        reader: r,
-        refusal: 0,
+        reader: f.reader,
+        refusal: None,
         written: true,
     };
     let x = list_reads(rt.stdin(), first);

@@ -4,10 +4,13 @@ use mathlib.Core.Bool.{Bool, true, false, cond}
 use mathlib.Core.List.{List, [], ◌∷◌, ◌++◌}
 use mathlib.Core.Logic.{◌↔◌}
 use Prim.Native.Nat.{ℕ, zero, suc, ◌+◌, ◌≤◌, ◌<◌}
+use native.Mathlib.Nat.{zero-add}
 use native.Mathlib.Omega.{arith}
 use borrow.Author.Tests.{eq-eqb, ne_eqb, eqb-true, eqb-false}
 use lib.Dec.{eqb}
 use lib.ListN.{length, get_or}
+use Rattle.std.specs.List.{count_by}
+use Rattle.std.proofs.lemmas.List.Recursion.{is_count_by}
 use Rattle.stuffing.specs.Stuffing.{DLE, stuffed, dles}
 
 pub stuffed_nil : stuffed [] ≡ []
@@ -52,6 +55,15 @@ pub dles_append : (a b : List ℕ) → dles (a ++ b) ≡ dles a + dles b
 unfolding dles
 dles_append [] b = omega arith
 dles_append (x ∷ a) b = omega (arith, dles_append a b)
+
+-- the library's count
+pub dles_count : (s : List ℕ) → dles s ≡ count_by (λ b. eqb b DLE) s
+unfolding dles
+dles_count s = is_count_by dles (λ b. eqb b DLE) refl (λ b s. one (eqb b DLE) (dles s)) s
+  where
+    one : (t : Bool) (n : ℕ) → cond t 1 0 + n ≡ cond t (1 + n) n
+    one true n = refl
+    one false n = zero-add n
 
 pub dles_dle : (b : ℕ) → b ≡ DLE → dles (b ∷ []) ≡ 1
 unfolding dles

@@ -11,26 +11,15 @@ pub const DLE: u8 = 0x10;
 pub fn count_dle(s: &[u8]) -> usize
     ensures { result ≡ dles s.now }
 {
-    let mut n: usize = 0;
-    let mut i: usize = 0;
-    while i < s.len() {
-        let is_dle = s[i] == DLE;
-        if is_dle {
-            n += 1;
-        }
-        i += 1;
-    }
-    n
+    s.iter().filter(|b| **b == DLE).count()
 }
 
 // Whether four bytes from `at` on are there, and none of them is 10h: such bytes go on as they are, four at a time.
+// The four tests are joined with no branch between them, since a reader asks this of every four bytes.
 pub fn four_plain(s: &[u8], at: usize) -> bool
     ensures { result ≡ four_plain s.now at }
 {
-    if s.len() < 4 {
-        return false;
-    }
-    if s.len() - 4 < at {
+    if s.len() < 4 || s.len() - 4 < at {
         return false;
     }
     (s[at] != DLE) & (s[at + 1] != DLE) & (s[at + 2] != DLE) & (s[at + 3] != DLE)

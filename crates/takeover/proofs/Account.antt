@@ -3,6 +3,7 @@ use mathlib.Core.Path.{◌≡◌, refl, sym, ap, ◌∙◌, subst}
 use Prim.Native.Nat.{ℕ, ◌≤◌}
 use native.Mathlib.Omega.{arith}
 use lib.ListN.{length}
+use Rattle.refusals.specs.Numbers.{why}
 use Rattle.line.specs.Record.{Rec, Possible}
 use Rattle.line.specs.Calls.{History, Demand3, taken}
 use Rattle.line.specs.Calls.{Trace as Seen}
@@ -36,7 +37,7 @@ module _ (m : ℕ) {h : History} {r : Reader} (t : Trace m h r) (o : Reader32) (
   possible : Possible (view32 o)
   possible = subst Possible (sym sofar.mirrors ∙ e) (is_possible m (taken h))
 
-  resumed : (x.refusal ≡ 0) × (view x.reader ≡ view32 o)
+  resumed : (why x.refusal ≡ 0) × (view x.reader ≡ view32 o)
   resumed = p.asked.rest low possible (λ z. absurd z)
 
   -- the calls before and after, as one list: what is proved of every list of calls is true of it

@@ -4,6 +4,9 @@ use mathlib.Core.Path.{◌≡◌, refl, ap, subst}
 use Prim.Native.Nat.{ℕ, ◌≤◌}
 use native.Mathlib.Omega.{arith}
 use lib.ListN.{length}
+use Rattle.std.specs.Prelude.{Option}
+use Rattle.refusals.specs.declared.Refusal.{Refusal}
+use Rattle.refusals.specs.Numbers.{why}
 use Rattle.line.specs.Table.Event.{refusal}
 use Rattle.line.specs.Record.{Rec, Possible, Asked, stepped, event_of}
 use Rattle.record.specs.View.{view, parts_of, shown}
@@ -17,31 +20,31 @@ use Rattle.takeover.specs.declared.Reader32.{Reader32}
 use Rattle.takeover.specs.declared.TakenOver.{TakenOver}
 use Rattle.takeover.specs.Takeover.{limit32, view32, same_parts, no_record, TakeOverPost}
 
-module _ (o : Reader32) (v : ℕ) (whole : length o.bytes ≡ 1024) (q : Questions (same_parts o) 0 v) where
+module _ (o : Reader32) (f : Option Refusal) (whole : length o.bytes ≡ 1024) (q : Questions (same_parts o) 0 (why f)) where
   -- refused: there is no record
-  pub refuses : (v ≡ 0 → ⊥) → (r : Reader) → r ≡ no_record → TakeOverPost o (record { refusal = v; reader = r })
+  pub refuses : (why f ≡ 0 → ⊥) → (r : Reader) → r ≡ no_record → TakeOverPost o (record { refusal = f; reader = r })
   refuses n r e =
       record {
         asked =
             record {
               one = λ z. (q.one z, e);
-              two = λ z f. (q.two z (λ p. f p.possible), e);
-              three = λ z p f. absurd f;
-              rest = λ z p f. absurd (n (q.rest z (record { whole = whole; possible = p }) (λ w. absurd (omega arith))));
+              two = λ z b. (q.two z (λ p. b p.possible), e);
+              three = λ z p b. absurd b;
+              rest = λ z p b. absurd (n (q.rest z (record { whole = whole; possible = p }) (λ w. absurd (omega arith))));
             };
         whole = λ z. absurd (n z);
       }
 
   -- accepted: the same parts
-  pub accepts : v ≡ 0 → (r : Reader) → r ≡ same_parts o → TakeOverPost o (record { refusal = 0; reader = r })
+  pub accepts : why f ≡ 0 → (r : Reader) → r ≡ same_parts o → TakeOverPost o (record { refusal = f; reader = r })
   accepts z r e =
       record {
         asked =
             record {
               one = λ l. absurd (let w : ⊥ = omega (arith, q.mode z) in w);
-              two = λ l f. absurd (f (q.valid z).possible);
-              three = λ l p f. absurd f;
-              rest = λ l p f. (refl, ap view e);
+              two = λ l b. absurd (b (q.valid z).possible);
+              three = λ l p b. absurd b;
+              rest = λ l p b. (z, ap view e);
             };
         whole = λ z. e;
       }

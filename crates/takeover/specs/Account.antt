@@ -1,5 +1,6 @@
 -- Document 02, Point 5: the account of a record that was taken over goes on.
 use Rattle.std.specs.Prelude.{List, ◌≡◌, ℕ, ◌≤◌}
+use Rattle.refusals.specs.Numbers.{why}
 use Rattle.line.specs.Calls.{History, step_took, Demand3}
 use Rattle.line.specs.Calls.Call.{step, feed}
 use Rattle.line.specs.Calls.History.{start, call}
@@ -28,7 +29,7 @@ joined h (call k c n a) = call (joined h k) c n a
 
 -- taking over gave x, after the calls of h by a reader of mode m
 pub record GoesOn (m : ℕ) (h : History) (x : TakenOver) : Type 0 where
-  pub taken_over : x.refusal ≡ 0
+  pub taken_over : why x.refusal ≡ 0
   -- every list of calls from the record taken over, joined to those before, has demand 3
   pub account : {k : History} {r : Reader} → From x.reader k r → Demand3 m (joined h k) (view r)
 

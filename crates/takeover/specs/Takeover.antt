@@ -1,5 +1,6 @@
 -- Document 02, Point 5: a record with counts of 32 bits, and what taking it over returns.
 use Rattle.std.specs.Prelude.{◌≡◌, ℕ}
+use Rattle.refusals.specs.Numbers.{why}
 use Rattle.line.specs.Record.{Rec, Asked}
 use Rattle.latest.specs.Latest.{latest_of}
 use Rattle.record.specs.View.{place_of, first_bytes, view}
@@ -55,5 +56,5 @@ no_record = blank_record 255
 
 pub record TakeOverPost (o : Reader32) (x : TakenOver) : Type 0 where
   -- questions 1 and 2, in order; no byte is offered, so 3 has no part, and a full record is taken over
-  pub asked : Asked (view32 o) ⊥ (λ v. (x.refusal ≡ v) × (x.reader ≡ no_record)) ((x.refusal ≡ 0) × (view x.reader ≡ view32 o))
-  pub whole : x.refusal ≡ 0 → x.reader ≡ same_parts o
+  pub asked : Asked (view32 o) ⊥ (λ v. (why x.refusal ≡ v) × (x.reader ≡ no_record)) ((why x.refusal ≡ 0) × (view x.reader ≡ view32 o))
+  pub whole : why x.refusal ≡ 0 → x.reader ≡ same_parts o

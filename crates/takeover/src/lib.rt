@@ -1,10 +1,12 @@
 // Records of readers that counted in 32 bits, and the call that takes one over.
 #![tactic(auto)]
 
-ghost use Rattle.takeover.specs.Takeover.{TakeOverPost};
+ghost use Rattle.std.specs.Prelude.{◌≡◌};
+ghost use Rattle.takeover.specs.Takeover.{head_of, TakeOverPost};
 
 use latest::Latest;
 use record::{Count, Head, Reader};
+use refusals::Refusal;
 
 // The record as it was: today's, with counts of 32 bits.
 #[derive(Clone, Copy)]
@@ -22,6 +24,29 @@ pub struct Head32 {
     pub fed: u32,
 }
 
+// Each part as it was, in a head of today.
+impl From<Head32> for Head {
+    ghost from_gives = { λ h t. t ≡ head_of h };
+
+    fn from(h: Head32) -> Head
+        ensures { result ≡ head_of h }
+    {
+        Head {
+            mode: h.mode,
+            place: h.place,
+            id: h.id,
+            c1: h.c1,
+            c2: h.c2,
+            len: h.len,
+            accepted: Count::from(h.accepted),
+            refused: Count::from(h.refused),
+            outside: Count::from(h.outside),
+            pending: Count::from(h.pending),
+            fed: Count::from(h.fed),
+        }
+    }
+}
+
 #[derive(Clone, Copy)]
 pub struct Reader32 {
     pub head: Head32,
@@ -32,7 +57,7 @@ pub struct Reader32 {
 // A reader that goes on, or the refusal beside a record by which no byte can be read.
 #[derive(Clone, Copy)]
 pub struct TakenOver {
-    pub refusal: u8,
+    pub refusal: Option<Refusal>,
     pub reader: Reader,
 }
 
@@ -43,37 +68,19 @@ const NO_MODE: u8 = 255;
 pub fn take_over(old: Reader32) -> TakenOver
     ensures { TakeOverPost old result }
 {
-    let h = old.head;
-    let head = Head {
-        mode: h.mode,
-        place: h.place,
-        id: h.id,
-        c1: h.c1,
-        c2: h.c2,
-        len: h.len,
-        accepted: h.accepted as Count,
-        refused: h.refused as Count,
-        outside: h.outside as Count,
-        pending: h.pending as Count,
-        fed: h.fed as Count,
-    };
-    let latest = old.latest;
-    let bytes = old.bytes;
-    let refusal = questions::question(head, latest, &bytes, 0);
-    if refusal != 0 {
-        let none = Reader::fresh(NO_MODE).reader;
-        return TakenOver {
-            refusal: refusal,
-            reader: none,
-        };
-    }
-    let reader = Reader {
-        head: head,
-        latest: latest,
-        bytes: bytes,
-    };
-    TakenOver {
-        refusal: 0,
-        reader: reader,
+    let head = Head::from(old.head);
+    match questions::question(head, old.latest, &old.bytes, 0) {
+        Ok(()) => TakenOver {
+            refusal: None,
+            reader: Reader {
+                head,
+                latest: old.latest,
+                bytes: old.bytes,
+            },
+        },
+        Err(refusal) => TakenOver {
+            refusal: Some(refusal),
+            reader: Reader::fresh(NO_MODE).reader,
+        },
     }
 }

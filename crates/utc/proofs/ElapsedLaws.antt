@@ -19,10 +19,6 @@ apart_near w n = go (leb w (n + 127)) (leb n (w + 127)) refl refl
     go true false p q = lt-leb (w - n + (n - w)) 127 (omega (arith, leb-false n (w + 127) q))
     go false b p q = lt-leb (w - n + (n - w)) 127 (omega (arith, leb-false w (n + 127) p))
 
-pub and_then : (p a b : Bool) → p && (a && b) ≡ p && a && b
-and_then true a b = refl
-and_then false a b = refl
-
 four : (a b c d : Bool) → a && b && c && d ≡ true → (a ≡ true) × (b ≡ true) × (c ≡ true) × (d ≡ true)
 four true true true true e = (refl, refl, refl, refl)
 four true true true false e = absurd (true≢false (sym e))

@@ -1,16 +1,16 @@
--- Floats: which bits are finite; that the float of a small integer is that integer; and what is no NaN.
+-- Floats: which are finite; that the float of a small integer is that integer; and what is no NaN.
 use mathlib.Core.Path.{◌≡◌, refl, sym, ap, ◌∙◌}
 use mathlib.Core.Bool.{Bool, true, false, not, cond, ◌&&◌, beq, true≢false}
 use Prim.Native.Nat.{ℕ, zero, suc, ◌+◌, ◌-◌, ◌*◌, ◌/◌, ◌%◌, ◌^◌, ◌≤◌, compare}
-use lib.Dec.{T, eqb, leb, ltb}
+use lib.Dec.{T, ltb}
 use lib.IntN.{ℤ, pos, negsuc, nat_abs}
-use lib.Pow.{field}
-use lib.Ieee.{Float, nan, inf, fin, binary64, up, down, unlike, size, nearest, odd, units, round, sum, add, mul, of_int, of_fields, of_bits, is_nan, nan_bits}
+use lib.Ieee.{Float, nan, inf, fin, binary64, up, down, unlike, size, nearest, odd, units, round, sum, add, mul, of_int, of_bits, is_nan, nan_bits}
 use lib.Ieee.Back.{round_whole}
 use lib.Ieee.Bits.{nan_bits_is}
 use lib.Ieee.Exact.{HasValue}
 use lib.Ieee.Fits.{round_is}
 use lib.Ieee.Scale.{finite}
+use Rattle.std.specs.Float.{float_is_finite}
 use Rattle.utc.specs.Offset.{polynomial}
 use Rattle.utc.specs.Meaning.{IsInteger}
 
@@ -19,22 +19,12 @@ unfolding odd
 odd_finite d s zero k l = refl
 odd_finite d s (suc q) k l = refl
 
--- by the exponent's field
-fields_finite : (s : Bool) (x t : ℕ) → finite (of_fields binary64 s x t) ≡ not (eqb x 2047)
-unfolding of_fields
-fields_finite s zero t = odd_finite 53 s t 0 1074
-fields_finite s (suc x) t = go (eqb (suc x) 2047) (eqb t 0)
-  where
-    go : (a b : Bool) → finite (cond a (cond b (inf s) nan) (odd 53 s (2 ^ 52 + t) x 1074)) ≡ not a
-    go true true = refl
-    go true false = refl
-    go false b = odd_finite 53 s (2 ^ 52 + t) x 1074
-
-pub finite_bits : (n : ℕ) → finite (of_bits binary64 n) ≡ not (eqb (n / 2 ^ 52 % 2 ^ 11) 2047)
-unfolding of_bits
-finite_bits n =
-    fields_finite (leb (2 ^ 63) n) (n % 2 ^ 63 / 2 ^ 52) (n % 2 ^ 52)
-    ∙ ap (λ (x : ℕ). not (eqb x 2047)) (field n 11 52)
+-- the library's test of a float
+pub finite_is : (x : Float) → float_is_finite x ≡ finite x
+unfolding float_is_finite
+finite_is nan = refl
+finite_is (inf s) = refl
+finite_is (fin s m e) = refl
 
 pub finite_number : (x : Float) → finite x ≡ true → is_nan x ≡ false
 unfolding is_nan

@@ -1,26 +1,15 @@
 -- The number by which fields are refused, question by question, and the answer that it makes.
-use mathlib.Core.Path.{◌≡◌, refl, sym, ◌∙◌}
+use mathlib.Core.Path.{◌≡◌, refl}
 use mathlib.Core.Bool.{Bool, true, false, not, cond, ◌&&◌}
-use mathlib.Core.List.{List}
 use Prim.Native.Nat.{ℕ}
 use native.Mathlib.Omega.{arith}
 use borrow.Author.Tests.{eq-eqb, ne_eqb}
 use lib.Dec.{eqb}
 use lib.Ieee.{binary64, of_bits}
 use lib.Ieee.Scale.{finite}
-use Rattle.kinds.specs.Kinds.{content}
-use Rattle.fields_4b.specs.Fields.{fields_of, decoded_of}
 use Rattle.fields_4b.specs.declared.Scales.{Scales}
-use Rattle.fields_4b.specs.declared.Decoded.{Decoded}
-use Rattle.utc.specs.Offset.{in_time, refusal_of, seconds_of, Answer, gives, refuses, from_fields, offset_of}
+use Rattle.utc.specs.Offset.{in_time, refusal_of, seconds_of, gives, from_fields}
 use Rattle.utc.specs.Meaning.{Finite}
-
--- a test that said no, and one that said yes
-pub said_no : (r a : Bool) → r ≡ a → r ≡ false → a ≡ false
-said_no r a e h = sym e ∙ h
-
-pub said_yes : (r a : Bool) → r ≡ a → r ≡ true → a ≡ true
-said_yes r a e h = sym e ∙ h
 
 module _ (f : Scales) (second week : ℕ) where
   abbrev pub timely : Bool
@@ -57,24 +46,6 @@ module _ (f : Scales) (second week : ℕ) where
       go true false x y z = absurd (omega arith)
       go false b x y z = absurd (omega arith)
 
-  pub refused : (v : ℕ) → v ≡ refusal_of f second week → (v ≡ 0 → ⊥) → refuses v ≡ from_fields f second week
-  unfolding from_fields
-  refused v e h = rw (← e, ne_eqb v 0 h)
-
   pub given : refusal_of f second week ≡ 0 → gives (seconds_of f second week) ≡ from_fields f second week
   unfolding from_fields
   given e = rw e
-
--- what was decoded, answered
-abbrev pub answered : Decoded → ℕ → ℕ → Answer
-answered (Decoded.Fields f) second week = from_fields f second week
-answered (Decoded.Refused v) second week = refuses v
-
-pub answered_is : (d : List ℕ) (second week : ℕ) → answered (decoded_of d) second week ≡ offset_of d second week
-unfolding decoded_of offset_of
-answered_is d second week = go (eqb (content 0x4B d) 0)
-  where
-    go : (t : Bool) → answered (cond t (Decoded.Fields (fields_of d)) (Decoded.Refused (content 0x4B d))) second week
-        ≡ cond t (from_fields (fields_of d) second week) (refuses (content 0x4B d))
-    go true = refl
-    go false = refl

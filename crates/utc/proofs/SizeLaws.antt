@@ -7,10 +7,9 @@ use native.Mathlib.Omega.{arith}
 use borrow.Author.Tests.{ltb-true, ltb-false}
 use lib.Dec.{ltb}
 use lib.IntN.{ℤ, pos, negsuc, neg_ℤ, nat_abs, sub_ℕ, ◌+ℤ◌, ◌-ℤ◌, ◌*ℤ◌}
-use mir.Syntax.{w16, w32}
-use mir.Val.{SFits, to_z}
+use mir.Syntax.{w32}
+use mir.Val.{SFits}
 use Rattle.numbers.specs.Signed.{signed, int16}
-use Rattle.numbers.proofs.SignedLaws.{signed_is}
 
 -- two numbers neither of which is more than k above the other
 apart : (a b k : ℕ) → a ≤ b + k → b ≤ a + k → nat_abs (sub_ℕ a b) ≤ k
@@ -51,7 +50,3 @@ int16_size v = go (ltb v 32768) refl
     go : (t : Bool) → ltb v 32768 ≡ t → nat_abs (cond t (pos v) (negsuc (65535 - v))) ≤ 32768
     go true e = omega (arith, ltb-true v 32768 e)
     go false e = omega (arith, ltb-false v 32768 e)
-
--- 16 bits, widened
-pub widens : (v : ℕ) → SFits w32 (to_z w16 v)
-widens v = rw (← signed_is w16 v) (fits_32 (int16 v) (omega (arith, int16_size v)))

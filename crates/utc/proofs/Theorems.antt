@@ -3,7 +3,7 @@ use mathlib.Core.Path.{◌≡◌, refl, sym, ap, ◌∙◌}
 use mathlib.Core.Bool.{Bool, true, false, not, cond, ◌&&◌, true≢false}
 use mathlib.Core.List.{List}
 use mathlib.Core.Logic.{inl, inr}
-use mathlib.Core.Option.{Option, none, some}
+use mathlib.Core.Option.{Option, none, some, some-injective}
 use Prim.Native.Nat.{ℕ, ◌+◌, ◌^◌, ◌≤◌}
 use native.Mathlib.Omega.{arith}
 use borrow.Author.Tests.{eq-eqb, ne_eqb, eqb-true, eqb-false}
@@ -13,6 +13,9 @@ use lib.Seq.{drop_at, length-take-le, take-add, take-take}
 use lib.IntN.{nat_abs}
 use lib.Ieee.{Float, binary64, of_bits, of_int, is_nan}
 use lib.Ieee.Scale.{finite}
+use Rattle.std.specs.Prelude.{Result, Ok, Err}
+use Rattle.refusals.specs.declared.Refusal.{Refusal}
+use Rattle.refusals.proofs.NumberLaws.{positive, one_number}
 use Rattle.octets.specs.Bytes.{byte}
 use Rattle.numbers.specs.Number.{number_of, number_at}
 use Rattle.numbers.specs.Signed.{int16}
@@ -20,7 +23,6 @@ use Rattle.numbers.proofs.NumberLaws.{number_in, number_one}
 use Rattle.kinds.proofs.OnlyLaws.{judged_4b}
 use Rattle.fields_4b.specs.Fields.{fields_of}
 use Rattle.fields_4b.specs.declared.Scales.{Scales}
-use Rattle.utc.specs.declared.answer.Offset.{Offset}
 use Rattle.utc.specs.Offset.{elapsed, in_time, refusal_of, seconds_of, Answer, gives, refuses, answer_of, from_fields, offset_of}
 use Rattle.utc.specs.Meaning.{Near, InTime, Finite, First, IsInteger, ZeroBits, SameTerms}
 use Rattle.utc.specs.Meaning.First.{by_length, by_flag, by_time, by_coefficient, accepted}
@@ -32,16 +34,11 @@ use Rattle.utc.proofs.ZeroLaws as zero
 
 -- ---- a number and a value are one answer of the code: its contract leaves nothing free
 
-abbrev enum_of : ℕ → Option Float → Offset
-enum_of v none = Offset.Refused v
-enum_of v (some x) = Offset.Seconds x
-
-pub settled : (o p : Offset) → answer_of o ≡ answer_of p → o ≡ p
-settled o p e = sym (back o) ∙ ap (λ (a : Answer). enum_of a.number a.value) e ∙ back p
-  where
-    back : (q : Offset) → enum_of (answer_of q).number (answer_of q).value ≡ q
-    back (Offset.Seconds x) = refl
-    back (Offset.Refused v) = refl
+pub settled : (o p : Result Float Refusal) → answer_of o ≡ answer_of p → o ≡ p
+settled (Ok x) (Ok y) e = ap Ok (some-injective x y (ap (λ (a : Answer). a.value) e))
+settled (Ok x) (Err r) e = absurd (positive r (sym (ap (λ (a : Answer). a.number) e)))
+settled (Err r) (Ok y) e = absurd (positive r (ap (λ (a : Answer). a.number) e))
+settled (Err r) (Err q) e = ap Err (one_number r q (ap (λ (a : Answer). a.number) e))
 
 -- ---- the answer, by the length
 
@@ -241,6 +238,6 @@ number_given d second week x e = sym (ap wild e) ∙ go (offset_of d second week
         (omega (arith, elapsed_size second f.tot week f.wnt n)) (omega (arith, leap_size d))
 
 -- the same of what a call returned: `f64::to_bits` asks it of its caller
-pub seconds_number : (d : List ℕ) (second week : ℕ) (o : Offset) (x : Float) → answer_of o ≡ offset_of d second week → o ≡ Offset.Seconds x → T (not (is_nan x))
+pub seconds_number : (d : List ℕ) (second week : ℕ) (o : Result Float Refusal) (x : Float) → answer_of o ≡ offset_of d second week → o ≡ Ok x → T (not (is_nan x))
 seconds_number d second week o x a e =
-    rw (number_given d second week x (sym (ap (λ (b : Answer). b.value) a) ∙ ap (λ (p : Offset). (answer_of p).value) e)) tt
+    rw (number_given d second week x (sym (ap (λ (b : Answer). b.value) a) ∙ ap (λ (p : Result Float Refusal). (answer_of p).value) e)) tt

@@ -1,14 +1,15 @@
 -- Document 02, Point 6: the offset of GPS time from UTC, from 4Bh data, a second of the week and a week.
 -- Floats are the library's: `mul` and `add` round once, to the nearest binary64; `of_int` is an integer's float.
-use Rattle.std.specs.Prelude.{Bool, not, cond, ◌&&◌, List, ℕ, ◌+◌, eqb, leb, ℤ, pos, ◌+ℤ◌, ◌-ℤ◌, ◌*ℤ◌, Float}
+use Rattle.std.specs.Prelude.{Bool, not, cond, ◌&&◌, List, ℕ, ◌+◌, eqb, leb, ℤ, pos, ◌+ℤ◌, ◌-ℤ◌, ◌*ℤ◌, Float, Result, Ok, Err}
 use Rattle.std.proofs.Math.Option.{Option, none, some}
 use Rattle.std.specs.Float.{binary64}
 use Rattle.std.specs.Float.Ieee.{mul, add, of_int, of_bits}
 use Rattle.std.specs.Float.Ieee.Scale.{finite}
+use Rattle.refusals.specs.declared.Refusal.{Refusal}
+use Rattle.refusals.specs.Numbers.{number}
 use Rattle.kinds.specs.Kinds.{content}
 use Rattle.fields_4b.specs.Fields.{fields_of}
 use Rattle.fields_4b.specs.declared.Scales.{Scales}
-use Rattle.utc.specs.declared.answer.Offset.{Offset}
 
 -- dt, the seconds from the message's own time: an integer. Weeks are plain numbers: nothing wraps at 1,024.
 abbrev pub elapsed : ℕ → ℕ → ℕ → ℕ → ℤ
@@ -46,10 +47,10 @@ gives x = record { number = 0; value = some x }
 abbrev pub refuses : ℕ → Answer
 refuses v = record { number = v; value = none }
 
--- the answer that each case of the code's enum is
-abbrev pub answer_of : Offset → Answer
-answer_of (Offset.Seconds x) = gives x
-answer_of (Offset.Refused v) = refuses v
+-- the answer that a call returned
+abbrev pub answer_of : Result Float Refusal → Answer
+answer_of (Ok x) = gives x
+answer_of (Err r) = refuses (number r)
 
 unfoldable pub from_fields : Scales → ℕ → ℕ → Answer
 from_fields f second week = cond (eqb (refusal_of f second week) 0) (gives (seconds_of f second week)) (refuses (refusal_of f second week))

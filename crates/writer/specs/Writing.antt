@@ -1,7 +1,7 @@
 -- Document 01, questions 1 and 10 to 13 of the writer.
 use Rattle.std.specs.Prelude.{cond, List, ℕ, ltb, length}
 use Rattle.octets.specs.Delivery.{written_of, filled_of}
-use Rattle.octets.specs.declared.Written.{Written}
+use Rattle.octets.specs.Delivery.{Written}
 use Rattle.kinds.specs.Kinds.{content}
 use Rattle.line.specs.Frame.{mode_of, frame}
 use Rattle.line.specs.Table.{capacity}

@@ -4,29 +4,23 @@
 ghost use Rattle.std.specs.Prelude.{◌≡◌, ◌∷◌, [], ℕ, ◌+◌, ◌≤◌, length};
 ghost use Rattle.stuffing.specs.Stuffing.{stuffed};
 ghost use Rattle.octets.specs.Placing.{placed};
+ghost use Rattle.octets.specs.Delivery.{written};
 ghost use Rattle.line.specs.Frame.{mode_of, sum_field, frame};
 ghost use Rattle.writer.specs.Writing.{length_on_line, frame_written, frame_filled};
 
-use octets::Written;
 use record::Reader;
+use refusals::Refusal;
 
 // The length of the frame of a message with this data, which is the same whatever its identifier; 0 of a mode above 1, and of more data
 // than a frame holds.
 pub fn frame_length(mode: u8, body: &[u8]) -> usize
     ensures { (id : ℕ) → result ≡ length_on_line mode id body.now }
 {
-    if 1 < mode {
+    if 1 < mode || Reader::CAPACITY < body.len() {
         return 0;
     }
-    if Reader::CAPACITY < body.len() {
-        return 0;
-    }
-    let dles = stuffing::count_dle(body);
-    let n = body.len() + dles;
-    if mode == 0 {
-        return n + 4;
-    }
-    n + 8
+    let n = body.len() + stuffing::count_dle(body);
+    if mode == 0 { n + 4 } else { n + 8 }
 }
 
 // Puts a byte of data at a place, a DLE twice, and returns the place after it.
@@ -37,9 +31,10 @@ fn put_byte(b: u8, buf: &mut [u8], at: usize) -> usize
     buf[at] = b;
     if b == Reader::DLE {
         buf[at + 1] = b;
-        return at + 2;
+        at + 2
+    } else {
+        at + 1
     }
-    at + 1
 }
 
 // Puts the data, stuffed, from a place on and returns the place after it.
@@ -49,10 +44,8 @@ fn put_data(body: &[u8], buf: &mut [u8], at: usize) -> usize
         × (buf.new ≡ placed buf.old at (stuffed body.now)) }
 {
     let mut to = at;
-    let mut i: usize = 0;
-    while i < body.len() {
-        to = put_byte(body[i], buf, to);
-        i += 1;
+    for b in body {
+        to = put_byte(*b, buf, to);
     }
     to
 }
@@ -67,8 +60,7 @@ fn put_sum(mode: u8, id: u8, body: &[u8], buf: &mut [u8], at: usize) -> usize
         return at;
     }
     let sum = checksum::sum_bytes(id, body);
-    let field = [Reader::DLE, Reader::SUM, sum.c1, sum.c2];
-    octets::put(&field, buf, at);
+    octets::put(&[Reader::DLE, Reader::SUM, sum.c1, sum.c2], buf, at);
     at + 4
 }
 
@@ -77,42 +69,25 @@ fn fill(mode: u8, id: u8, body: &[u8], buf: &mut [u8])
     requires { length (frame (mode_of mode) id body.now) ≤ length buf.old }
     ensures { buf.new ≡ placed buf.old 0 (frame (mode_of mode) id body.now) }
 {
-    let head = [Reader::DLE, id];
-    octets::put(&head, buf, 0);
+    octets::put(&[Reader::DLE, id], buf, 0);
     let past_data = put_data(body, buf, 2);
     let past_sum = put_sum(mode, id, body, buf, past_data);
-    let end = [Reader::DLE, Reader::ETX];
-    octets::put(&end, buf, past_sum);
+    octets::put(&[Reader::DLE, Reader::ETX], buf, past_sum);
 }
 
 // Writes the frame of a message into the buffer, or says why not.
-pub fn write(mode: u8, id: u8, body: &[u8], buf: &mut [u8]) -> Written
-    ensures { (result ≡ frame_written mode id body.now buf.old)
+pub fn write(mode: u8, id: u8, body: &[u8], buf: &mut [u8]) -> Result<usize, Refusal>
+    ensures { (written result ≡ frame_written mode id body.now buf.old)
         × (buf.new ≡ frame_filled mode id body.now buf.old) }
 {
     if 1 < mode {
-        return Written {
-            refusal: refusals::MODE,
-            length: 0,
-        };
+        return Err(Refusal::Mode);
     }
-    let refusal = kinds::content(id, body);
-    if refusal != 0 {
-        return Written {
-            refusal: refusal,
-            length: 0,
-        };
-    }
+    kinds::content(id, body)?;
     let n = frame_length(mode, body);
     if buf.len() < n {
-        return Written {
-            refusal: refusals::BUFFER,
-            length: 0,
-        };
+        return Err(Refusal::Buffer);
     }
     fill(mode, id, body, buf);
-    Written {
-        refusal: 0,
-        length: n,
-    }
+    Ok(n)
 }

@@ -1,71 +1,55 @@
--- `line_time` meets its contract. The loop's invariant: the time of the list is that of what is left, after the bytes so far.
-use mathlib.Core.Path.{sym, ◌∙◌}
-use Prim.Native.Nat.{◌+◌, ◌*◌, ◌≤◌}
-use native.Mathlib.Omega.{arith}
-use lib.ListN.{length, drop, length-drop}
+-- `line_time` meets its contract: a turn of the loop takes a message from what is left.
+use Rattle.std.proofs.Common.{◌≡◌, sym, ap, ◌∙◌, subst, ◌+◌, ◌*◌, ◌≤◌, arith, rules, Result, Some, Ok, Err}
+use Rattle.refusals.specs.declared.Refusal.{Refusal}
 use Rattle.line.specs.Frame.{mode_of}
-use Rattle.batch.proofs.TimeLaws.{time_mode, time_long, time_list, time_end, turn_within, turn_refused, turn_most, turn_taken}
+use Rattle.batch.specs.declared.Message.{Message}
+use Rattle.batch.specs.Walks.{left, bytes_left, Gives}
+use Rattle.batch.proofs.TimeLaws.{time_from, time_mode, time_list, time_end, turn_most, turn_taken}
 use Rattle.batch.proofs.line_time.Goals as goal
-use Rattle.batch.proofs.line_time.Goals.{After-bytes_at-bytes, Else-e-ne0}
+use Rattle.batch.proofs.line_time.Goals.{After-frame_length}
 
--- an entry that is taken lies within the list
-inside : (c : Else-e-ne0)
-    → c.loop-at.at + (3 + c.entry_at-e.result.length) ≤ length c.args.list.now
-inside c =
-    turn_within c.args.list.now c.loop-at.at c.entry_at-e.result
-    c.entry_at-e.ensures c.loop-at-test.true c.if-e-ne0.false
+-- what a turn takes
+given : (c : After-frame_length) → Gives c.loop-message.message-iterator (Some (Ok c.in_ok-message.field-0)) c.next.new.self
+given c = subst (λ (r : Result Message Refusal). Gives c.loop-message.message-iterator (Some r) c.next.new.self) c.in_ok-message.was c.in-Some.ensures.steps
 
--- and takes no more than three bytes on the line for each of its own
-few : (c : After-bytes_at-bytes) → c.bytes_at-bytes.result ≤ 3 * (3 + c.entry_at-e.result.length)
-few c =
-    let a = c.args in
-    turn_most a.list.now c.loop-at.at c.entry_at-e.result c.entry_at-e.ensures c.loop-at-test.true
-    a.mode c.bytes_at-bytes.result c.if-mode-gt1.false c.if-e-ne0.false c.bytes_at-bytes.ensures
+few : (c : After-frame_length) → c.frame_length.result + 3 * bytes_left c.next.new.self ≤ 3 * bytes_left c.loop-message.message-iterator
+few c = turn_most c.args.mode c.loop-message.message-iterator c.next.new.self c.in_ok-message.field-0 (given c) c.if-mode-gt1.false c.frame_length.result c.frame_length.ensures
 
 pub returns-then-mode-gt1 : goal.returns-then-mode-gt1
-returns-then-mode-gt1 c = let a = c.args in c.timed.ensures ∙ sym (time_mode a.mode a.list.now c.if-mode-gt1.true)
+returns-then-mode-gt1 c = sym (time_mode c.args.mode c.args.list.now c.if-mode-gt1.true)
 
-pub returns-then-list-gt-LIMIT : goal.returns-then-list-gt-LIMIT
-returns-then-list-gt-LIMIT c =
-    let a = c.args in
-    c.timed-then-list-gt-LIMIT.ensures ∙ sym (time_long a.mode a.list.now c.if-mode-gt1.false c.if-list-gt-LIMIT.true)
+pub returns-in_err-message-items : goal.returns-in_err-message-items
+returns-in_err-message-items c =
+    let g : c.from_residual.result ≡ Err c.in_err-message-items.field-0.0 = search rules in
+    rw g (sym (time_list c.args.mode c.args.list.now c.if-mode-gt1.false ∙ ap (time_from (mode_of c.args.mode) 0) (sym c.in_err-message-items.ensures.0)))
 
-pub returns-then-e-ne0 : goal.returns-then-e-ne0
-returns-then-e-ne0 c =
-    let a = c.args in
-    c.timed-then-e-ne0.ensures
-    ∙ sym
-    (time_list a.mode a.list.now c.if-mode-gt1.false c.if-list-gt-LIMIT.false
-    ∙ c.loop-at.invariant.2
-    ∙ turn_refused a.list.now c.loop-at.at c.entry_at-e.result c.entry_at-e.ensures c.loop-at-test.true
-    (mode_of a.mode) c.loop-at.bytes c.if-e-ne0.true)
-
-pub bytes_at-bytes-requires : goal.bytes_at-bytes-requires
-bytes_at-bytes-requires c = (inside (goal.at.bytes_at-bytes-requires c).Else-e-ne0, c.if-list-gt-LIMIT.false)
+pub loop-message-init : goal.loop-message-init
+loop-message-init c =
+    let e = c.in_ok-message-items.ensures in
+    rw c.into_iter-message-iterator.ensures.into_iter_gives
+    (tt, omega (arith, e.1), time_list c.args.mode c.args.list.now c.if-mode-gt1.false ∙ ap (time_from (mode_of c.args.mode) 0) (sym e.0))
 
 pub overflow_add-bytes : goal.overflow_add-bytes
-overflow_add-bytes c = omega (arith, inside (goal.at.overflow_add-bytes c).Else-e-ne0, few (goal.at.overflow_add-bytes c).After-bytes_at-bytes)
+overflow_add-bytes c = omega (arith, few (goal.at.overflow_add-bytes c).After-frame_length)
 
-pub overflow_add-at : goal.overflow_add-at
-overflow_add-at c = omega (arith, inside (goal.at.overflow_add-at c).Else-e-ne0)
+pub returns-in_err-message : goal.returns-in_err-message
+returns-in_err-message c =
+    let r = c.in_err-message.field-0.0 in
+    let g : c.from_residual-in_err-message.result ≡ Err r = search rules in
+    let q : Gives c.loop-message.message-iterator (Some (Err r)) c.next.new.self =
+    subst (λ (t : Result Message Refusal). Gives c.loop-message.message-iterator (Some t) c.next.new.self) c.in_err-message.was c.in-Some.ensures.steps in
+    rw g (sym (c.loop-message.invariant.2 ∙ ap (time_from (mode_of c.args.mode) c.loop-message.bytes) q.0))
 
-pub overflow_add-at-in-loop-at : goal.overflow_add-at-in-loop-at
-overflow_add-at-in-loop-at c = omega (arith, inside (goal.at.overflow_add-at-in-loop-at c).Else-e-ne0)
-
-pub loop-at-preserved : goal.loop-at-preserved
-loop-at-preserved c =
-    let a = c.args in
-    let next =
-    turn_taken a.list.now c.loop-at.at c.entry_at-e.result c.entry_at-e.ensures c.loop-at-test.true
-    a.mode c.bytes_at-bytes.result c.if-mode-gt1.false c.if-e-ne0.false c.bytes_at-bytes.ensures c.loop-at.bytes in
-    (omega (arith, inside (goal.at.loop-at-preserved c).Else-e-ne0), omega (arith, few (goal.at.loop-at-preserved c).After-bytes_at-bytes), c.loop-at.invariant.2 ∙ next)
+pub loop-message-preserved : goal.loop-message-preserved
+loop-message-preserved c =
+    let w = few (goal.at.loop-message-preserved c).After-frame_length in (
+      tt,
+      omega (arith, w),
+      c.loop-message.invariant.2
+          ∙ turn_taken c.args.mode c.loop-message.message-iterator c.next.new.self c.in_ok-message.field-0 (given (goal.at.loop-message-preserved c).After-frame_length)
+          c.if-mode-gt1.false c.frame_length.result c.frame_length.ensures c.loop-message.bytes,
+    )
 
 pub returns : goal.returns
 returns c =
-    let a = c.args in
-    let s = a.list.now in
-    c.timed-2.ensures
-    ∙ sym
-    (time_list a.mode s c.if-mode-gt1.false c.if-list-gt-LIMIT.false
-    ∙ c.loop-at.invariant.2
-    ∙ time_end (mode_of a.mode) c.loop-at.bytes (drop c.loop-at.at s) (rw length-drop (omega (arith, c.loop-at-test.false))))
+    sym (c.loop-message.invariant.2 ∙ time_end (mode_of c.args.mode) c.loop-message.bytes (left c.loop-message.message-iterator) c.in-None.ensures.steps.0)

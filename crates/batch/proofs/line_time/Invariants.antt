@@ -1,16 +1,14 @@
 -- `line_time` meets its contract. The loop's invariant: the time of the list is that of what is left, after the bytes so far.
-use mathlib.Core.Path.{◌≡◌}
-use Prim.Native.Nat.{◌-◌, ◌*◌, ◌≤◌}
-use lib.ListN.{length, drop}
+use Rattle.std.proofs.Common.{◌≡◌, ◌+◌, ◌*◌, ◌≤◌}
 use Rattle.line.specs.Frame.{mode_of}
-use Rattle.batch.specs.Entries.{contents_of}
+use Rattle.batch.specs.Entries.{limit}
+use Rattle.batch.specs.Times.{time_for}
+use Rattle.batch.specs.Walks.{left, bytes_left}
 use Rattle.batch.proofs.TimeLaws.{time_from}
 use Rattle.batch.proofs.line_time.Given as goal
 
-abbrev pub invariant-loop-at : goal.invariant-loop-at
-invariant-loop-at l =
-    (l.at ≤ length l.list) × (l.bytes ≤ 3 * l.at)
-    × (time_from (mode_of l.mode) 0 (contents_of l.list) ≡ time_from (mode_of l.mode) l.bytes (contents_of (drop l.at l.list)))
-
-abbrev pub decreases-loop-at : goal.decreases-loop-at
-decreases-loop-at l = length l.list - l.at
+abbrev pub invariant-loop-message : goal.invariant-loop-message
+invariant-loop-message l =
+    (goal.iterator-loop-message).can_next l.message-iterator
+    × (l.bytes + 3 * bytes_left l.message-iterator ≤ 3 * limit)
+    × (time_for l.mode l.list ≡ time_from (mode_of l.mode) l.bytes (left l.message-iterator))

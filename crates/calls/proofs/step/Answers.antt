@@ -1,6 +1,5 @@
 -- `calls::step` meets its contract: a slice of one byte is a step.
-use mathlib.Core.Path.{ap, ◌∙◌}
-use native.Mathlib.Omega.{arith}
+use Rattle.std.proofs.Common.{ap, ◌∙◌, arith}
 use Rattle.record.specs.View.{view, shown}
 use Rattle.calls.proofs.Single.{single}
 use Rattle.calls.proofs.step.Goals as goal

@@ -1,23 +1,14 @@
 -- `checksum::after_slice` meets its contract. The loop's invariant: the bytes still to go take the register to the result.
-use mathlib.Core.Path.{◌≡◌}
-use Prim.Native.Nat.{◌<◌}
-use native.Mathlib.Numerals.{add-one}
-use native.Mathlib.Omega.{arith}
-use lib.ListN.{length}
-use lib.Seq.{drop-cons, drop-length}
+use Rattle.std.proofs.Common.{add-one, arith, drop-cons}
+use lib.Seq.{drop-length}
 use Rattle.checksum.specs.Checksum.{after_bytes}
 use Rattle.checksum.proofs.after_slice.Goals as goal
+use Rattle.std.proofs.lemmas.Grind.{common_steps}
 
-pub loop-i-preserved : goal.loop-i-preserved
+pub loop-b-preserved : goal.loop-b-preserved
 unfolding after_bytes
-loop-i-preserved c =
-    let s = c.args.s.now in
-    let h : c.loop-i.i < length s = omega arith in
-    (omega arith, rw (c.after_byte-r.ensures, add-one) (rw (drop-cons s c.loop-i.i 0 h) at c.loop-i.invariant.1))
+loop-b-preserved c = grind (arith, common_steps, add-one, drop-cons)
 
 pub returns : goal.returns
 unfolding after_bytes
-returns c =
-    let s = c.args.s.now in
-    let n : c.loop-i.i ≡ length s = omega arith in
-    rw (n, drop-length) at c.loop-i.invariant.1
+returns c = grind (arith, common_steps, drop-length)

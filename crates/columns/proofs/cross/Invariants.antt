@@ -1,11 +1,7 @@
 -- `cross` meets its contract. The loop's invariant: the first j columns are placed behind the header.
 use mathlib.Core.Path.{◌≡◌}
-use Prim.Native.Nat.{◌-◌, ◌≤◌}
 use Rattle.columns.proofs.ColumnLaws.{crossed_to}
 use Rattle.columns.proofs.cross.Given as goal
 
 abbrev pub invariant-loop-j : goal.invariant-loop-j
-invariant-loop-j l = (l.j ≤ l.w) × (l.buf ≡ crossed_to l.src l.header l.n l.w l.initial.buf l.at l.j)
-
-abbrev pub decreases-loop-j : goal.decreases-loop-j
-decreases-loop-j l = l.w - l.j
+invariant-loop-j l = l.buf ≡ crossed_to l.src l.header l.n l.w l.initial.buf l.at l.j

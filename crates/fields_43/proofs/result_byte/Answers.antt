@@ -1,17 +1,14 @@
 -- `result_byte` meets its contract: parts that there is room for do not overlap.
-use mathlib.Core.Bool.{Bool, true, false, and-eq-true_iff}
-use mathlib.Core.Path.{◌≡◌, ◌∙◌}
-use Prim.Native.Nat.{ℕ, ◌+◌, ◌*◌, ◌%◌, ◌≤◌}
-use native.Mathlib.Omega.{arith}
-use borrow.Author.Tests.{leb-true}
+use Rattle.std.proofs.Common.{Bool, true, false, ◌≡◌, refl, ◌∙◌, ℕ, ◌+◌, ◌*◌, ◌%◌, ◌≤◌, arith, le-leb}
 use lib.Bits.{bit_or, or_shifted}
-use lib.Dec.{leb}
+use mir.Val.{bool_byte}
 use Rattle.fields_43.specs.Fields.{bit_of}
+use Rattle.fields_43.proofs.RoundTrips.{bit_le}
 use Rattle.fields_43.proofs.result_byte.Goals as goal
 
-bit_le : (b : Bool) → bit_of b ≤ 1
-bit_le true = omega arith
-bit_le false = omega arith
+bit_is : (b : Bool) → bool_byte b ≡ bit_of b
+bit_is true = refl
+bit_is false = refl
 
 packed : (a g p l : ℕ) → a ≤ 3 → g ≤ 1 → p ≤ 1 → l ≤ 15
     → bit_or (bit_or (bit_or (a * 64 % 256) (g * 32 % 256)) (p * 16 % 256)) l ≡ a * 64 + g * 32 + p * 16 + l
@@ -24,9 +21,8 @@ packed a g p l ha hg hp hl =
     let f₃ : bit_or ((a * 4 + g * 2 + p) * 16) l ≡ (a * 4 + g * 2 + p) * 16 + l = or_shifted (a * 4 + g * 2 + p) 4 l (omega arith) in
     rw (e₁, e₂, e₃, f₁, f₂, f₃) (omega arith)
 
-pub returns-then-f : goal.returns-then-f
-returns-then-f c =
+pub returns-then-f-le15 : goal.returns-then-f-le15
+returns-then-f-le15 c =
     let f = c.args.f in
-    let b = (and-eq-true_iff (leb f.antenna 3) (leb f.low 15)).0 c.if-f.true in
-    rw (c.if-f.true, c.bit-glonass.ensures, c.bit-gps.ensures)
-    (packed f.antenna (bit_of f.glonass) (bit_of f.gps) f.low (leb-true _ _ b.0) (bit_le f.glonass) (bit_le f.gps) (leb-true _ _ b.1))
+    rw (le-leb _ _ c.if-f-le3.true, le-leb _ _ c.if-f-le15.true, c.from.ensures ∙ bit_is f.glonass, c.from-then-f-le15.ensures ∙ bit_is f.gps)
+    (packed f.antenna (bit_of f.glonass) (bit_of f.gps) f.low c.if-f-le3.true (bit_le f.glonass) (bit_le f.gps) c.if-f-le15.true)

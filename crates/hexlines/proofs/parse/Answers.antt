@@ -1,45 +1,32 @@
--- `hexlines::parse` meets its contract. The loop's invariant: what the digits still to be read give, put after the bytes stored,
+-- `hexlines::parse` meets its contract.
 use mathlib.Core.Path.{◌≡◌, ap, ◌∙◌}
-use Prim.Native.Nat.{ℕ, ◌+◌, ◌*◌, ◌≤◌, ◌<◌}
+use Prim.Native.Nat.{ℕ, ◌≤◌, ◌<◌}
 use native.Mathlib.Omega.{arith}
-use lib.ListN.{length, get_or, set}
+use lib.ListN.{length}
+use Rattle.std.proofs.Common.{min}
+use Rattle.std.specs.Slice.Iter.{chunks_rest}
 use Rattle.hexlines.specs.Lines.{digit_of}
-use Rattle.hexlines.proofs.ByteLaws.{Left, left_more, left_read, left_full}
+use Rattle.hexlines.proofs.ByteLaws.{byte_of, left_more, left_read, left_full}
 use Rattle.hexlines.proofs.parse.Goals as goal
-use Rattle.hexlines.proofs.parse.Goals.{After-octet}
 
--- a turn's byte is stored
-stored : (c : After-octet) →
-    let a = c.args in
-    Left a.out.now a.s.now (set c.loop-i.out c.loop-i.n c.octet.result) (c.loop-i.n + 1) (c.loop-i.i + 2)
-stored c =
-    let s = c.args.s.now in
-    let i = c.loop-i.i in
-    let b = c.byte_at-low in
-    let h : c.loop-i.n < length c.args.out.now = omega (arith, c.loop-i.invariant.1.same) in
-    let k : i < length s = omega arith in
-    let high : c.octet.result ≡ digit_of (get_or s i 0) * 16 + digit_of b.result = c.octet.ensures in
-    left_more _ _ _ _ i _ c.loop-i.invariant.1 h k (high ∙ ap (λ (x : ℕ). digit_of (get_or s i 0) * 16 + digit_of x) b.ensures)
+pub loop-pair-preserved : goal.loop-pair-preserved
+loop-pair-preserved c =
+    let l = c.loop-pair.invariant in
+    let step = c.in-Some.ensures.steps in
+    let p = c.in-Some.pair.now in
+    let room : c.loop-pair.n < length c.args.out.now = omega (arith, l.1.same) in
+    let two = step.1.1 ∙ ap (λ (k : ℕ). min k (length (chunks_rest c.loop-pair.pair-iterator))) l.0 in
+    let byte : c.octet.result ≡ byte_of p = omega (arith, c.octet.ensures, ap digit_of c.byte_at-low.ensures) in
+    (step.0 ∙ l.0, left_more _ _ _ _ _ p _ _ l.1 room step.1.0 two step.1.2 byte)
 
 pub returns-then-out-n : goal.returns-then-out-n
 returns-then-out-n c =
-    let m : length c.args.out.now ≤ c.loop-i.n = omega (arith, c.loop-i.invariant.1.same) in
-    let w = left_full _ _ _ _ _ c.loop-i.invariant.1 m in
+    let l = c.loop-pair.invariant.1 in
+    let full : length c.args.out.now ≤ c.loop-pair.n = omega (arith, l.same) in
+    let w = left_full _ _ _ _ _ l full in
     record { value = w.0; within = w.1 }
-
-pub returns-then-s-i-lt2 : goal.returns-then-s-i-lt2
-returns-then-s-i-lt2 c =
-    let s = c.args.s.now in
-    let h : length s ≤ c.loop-i.i + 2 = omega arith in
-    let w = left_read _ _ _ _ _ (stored (goal.at.returns-then-s-i-lt2 c).After-octet) h in
-    record { value = w.0; within = w.1 }
-
-pub loop-i-preserved : goal.loop-i-preserved
-loop-i-preserved c = (omega arith, stored (goal.at.loop-i-preserved c).After-octet)
 
 pub returns : goal.returns
 returns c =
-    let s = c.args.s.now in
-    let h : length s ≤ c.loop-i.i = omega arith in
-    let w = left_read _ _ _ _ _ c.loop-i.invariant.1 h in
+    let w = left_read _ _ _ _ _ c.loop-pair.invariant.1 c.in-None.ensures.steps.1.0 in
     record { value = w.0; within = w.1 }

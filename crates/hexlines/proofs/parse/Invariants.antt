@@ -1,13 +1,9 @@
 -- `hexlines::parse` meets its contract. The loop's invariant: what the digits still to be read give, put after the bytes stored,
 -- makes the whole.
-use Prim.Native.Nat.{◌-◌, ◌≤◌}
-use lib.ListN.{length}
+use mathlib.Core.Path.{◌≡◌}
+use Rattle.std.specs.Slice.Iter.{chunks_rest, chunks_size}
 use Rattle.hexlines.proofs.ByteLaws.{Left}
 use Rattle.hexlines.proofs.parse.Given as goal
 
--- makes the whole.
-abbrev pub invariant-loop-i : goal.invariant-loop-i
-invariant-loop-i l = (l.i ≤ length l.s) × Left l.initial.out l.s l.out l.n l.i
-
-abbrev pub decreases-loop-i : goal.decreases-loop-i
-decreases-loop-i l = length l.s - l.i
+abbrev pub invariant-loop-pair : goal.invariant-loop-pair
+invariant-loop-pair l = (chunks_size l.pair-iterator ≡ 2) × Left l.initial.out l.s l.out l.n (chunks_rest l.pair-iterator)

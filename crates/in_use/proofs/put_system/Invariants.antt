@@ -6,8 +6,4 @@ use Rattle.in_use.specs.InUse.{system_data}
 use Rattle.in_use.proofs.put_system.Given as goal
 
 abbrev pub invariant-loop-number : goal.invariant-loop-number
-invariant-loop-number l =
-    (1 ≤ l.number) × (l.number ≤ l.most + 1) × (l.all ≡ placed l.initial.all l.at (system_data l.word l.system (l.number - 1)))
-
-abbrev pub decreases-loop-number : goal.decreases-loop-number
-decreases-loop-number l = l.most + 1 - l.number
+invariant-loop-number l = (l.number ≤ l.most + 1) × (l.all ≡ placed l.initial.all l.at (system_data l.word l.system (l.number - 1)))

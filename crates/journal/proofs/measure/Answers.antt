@@ -1,54 +1,34 @@
--- `measure` meets its contract. The loop's invariant: the list measures what is left of it, after the bytes so far.
-use mathlib.Core.Path.{sym, ◌∙◌}
-use Prim.Native.Nat.{◌+◌, ◌≤◌}
-use native.Mathlib.Omega.{arith}
-use lib.ListN.{length, drop, length-drop}
-use Rattle.batch.proofs.TimeLaws.{turn_within}
-use Rattle.journal.proofs.WritingLaws.{measure_long, measure_list, measure_end, measure_refused, measure_taken}
+-- `measure` meets its contract: a turn of the loop takes a message from what is left.
+use Rattle.std.proofs.Common.{◌≡◌, sym, ap, ◌∙◌, subst, arith, rules, Result, Some, Ok, Err}
+use Rattle.refusals.specs.declared.Refusal.{Refusal}
+use Rattle.batch.specs.declared.Message.{Message}
+use Rattle.batch.specs.Walks.{left, Gives}
+use Rattle.journal.proofs.WritingLaws.{measured_from, measure_start, measure_end, measure_taken}
 use Rattle.journal.proofs.measure.Goals as goal
-use Rattle.journal.proofs.measure.Goals.{Else-e-ne0}
+use Rattle.journal.proofs.measure.Goals.{In_ok-length}
 
--- an entry that is taken lies within the list
-inside : (c : Else-e-ne0)
-    → c.loop-at.at + (3 + c.entry_at-e.result.length) ≤ length c.args.list.now
-inside c =
-    turn_within c.args.list.now c.loop-at.at c.entry_at-e.result
-    c.entry_at-e.ensures c.loop-at-test.true c.if-e-ne0.false
+-- what a turn takes
+given : (c : In_ok-length) → Gives c.loop-message.message-iterator (Some (Ok c.in_ok-length.field-0)) c.next.new.self
+given c = subst (λ (r : Result Message Refusal). Gives c.loop-message.message-iterator (Some r) c.next.new.self) c.in_ok-length.was c.in-Some.ensures.steps
 
-pub returns-then-list-gt-LIMIT : goal.returns-then-list-gt-LIMIT
-returns-then-list-gt-LIMIT c = let a = c.args in sym (measure_long a.list.now c.if-list-gt-LIMIT.true)
-
-pub returns-then-e-ne0 : goal.returns-then-e-ne0
-returns-then-e-ne0 c =
-    let s = c.args.list.now in
-    sym
-    (measure_list s c.if-list-gt-LIMIT.false
-    ∙ c.loop-at.invariant.2
-    ∙ measure_refused s c.loop-at.at c.loop-at-test.true c.entry_at-e.result c.entry_at-e.ensures c.loop-at.length c.if-e-ne0.true)
+pub loop-message-init : goal.loop-message-init
+loop-message-init c = rw c.into_iter-message-iterator.ensures.into_iter_gives (tt, omega arith, measure_start (left c.args.messages))
 
 pub overflow_add-length : goal.overflow_add-length
-overflow_add-length c = omega (arith, inside (goal.at.overflow_add-length c).Else-e-ne0)
+overflow_add-length c = omega (arith, (given (goal.at.overflow_add-length c).In_ok-length).2, c.ranges.messages)
 
-pub overflow_add-length-in-loop-at : goal.overflow_add-length-in-loop-at
-overflow_add-length-in-loop-at c = omega (arith, inside (goal.at.overflow_add-length-in-loop-at c).Else-e-ne0)
+pub returns-in_err-length : goal.returns-in_err-length
+returns-in_err-length c =
+    let r = c.in_err-length.field-0.0 in
+    let g : c.from_residual.result ≡ Err r = search rules in
+    let q : Gives c.loop-message.message-iterator (Some (Err r)) c.next.new.self =
+    subst (λ (t : Result Message Refusal). Gives c.loop-message.message-iterator (Some t) c.next.new.self) c.in_err-length.was c.in-Some.ensures.steps in
+    rw g (sym (c.loop-message.invariant.2 ∙ ap (measured_from c.loop-message.length) q.0))
 
-pub overflow_add-at : goal.overflow_add-at
-overflow_add-at c = omega (arith, inside (goal.at.overflow_add-at c).Else-e-ne0)
-
-pub overflow_add-at-in-loop-at : goal.overflow_add-at-in-loop-at
-overflow_add-at-in-loop-at c = omega (arith, inside (goal.at.overflow_add-at-in-loop-at c).Else-e-ne0)
-
-pub loop-at-preserved : goal.loop-at-preserved
-loop-at-preserved c =
-    let s = c.args.list.now in
-    let next =
-    measure_taken s c.loop-at.at c.loop-at-test.true c.entry_at-e.result c.entry_at-e.ensures c.loop-at.length c.if-e-ne0.false in
-    (omega (arith, inside (goal.at.loop-at-preserved c).Else-e-ne0), omega arith, c.loop-at.invariant.2 ∙ next)
+pub loop-message-preserved : goal.loop-message-preserved
+loop-message-preserved c =
+    let g = given (goal.at.loop-message-preserved c).In_ok-length in
+    (tt, omega (arith, g.2), c.loop-message.invariant.2 ∙ measure_taken c.loop-message.message-iterator c.next.new.self c.in_ok-length.field-0 g c.loop-message.length)
 
 pub returns : goal.returns
-returns c =
-    let s = c.args.list.now in
-    sym
-    (measure_list s c.if-list-gt-LIMIT.false
-    ∙ c.loop-at.invariant.2
-    ∙ measure_end c.loop-at.length (drop c.loop-at.at s) (rw length-drop (omega (arith, c.loop-at-test.false))))
+returns c = sym (c.loop-message.invariant.2 ∙ measure_end c.loop-message.length (left c.loop-message.message-iterator) c.in-None.ensures.steps.0)

@@ -1,78 +1,67 @@
--- `put_records` meets its contract. The loop's invariant: what is left of the list is not refused, it fits, and with its records placed
-use mathlib.Core.List.{[]}
-use mathlib.Core.Path.{◌≡◌, refl, sym, ap, ◌∙◌, subst}
-use Prim.Native.Nat.{◌+◌, ◌-◌, ◌≤◌}
-use native.Mathlib.Omega.{arith}
-use lib.ListN.{length, take, drop}
-use Rattle.octets.specs.Bytes.{byte}
+-- `put_records` meets its contract: a turn of the loop takes a message from what is left, and none is refused.
+use Rattle.std.proofs.Common.{◌≡◌, refl, sym, ap, ◌∙◌, subst, ℕ, ◌+◌, ◌≤◌, List, length, arith, Result, Some, Ok, Err}
+use Rattle.refusals.specs.declared.Refusal.{Refusal}
 use Rattle.octets.specs.Placing.{placed}
 use Rattle.octets.proofs.PlacingLaws.{length_placed, placed_nil}
-use Rattle.batch.specs.Entries.{Entry, body_in, Contents}
-use Rattle.batch.proofs.EntryLaws.{body_part}
+use Rattle.batch.specs.declared.Message.{Message}
+use Rattle.batch.specs.Walks.{left, entry as taken, Gives}
 use Rattle.journal.specs.Records.{record_of}
 use Rattle.journal.specs.Calls.{records_in}
-use Rattle.journal.proofs.WritingLaws.{Entire, entire, unrefused, Turn, turn, left_of, none_left, written_one}
+use Rattle.journal.proofs.WritingLaws.{Entire, entire, none_left, small, rest_entire, written_one}
 use Rattle.journal.proofs.put_records.Goals as goal
-use Rattle.journal.proofs.put_records.Goals.{After-length_at-n}
+use Rattle.journal.proofs.put_records.Goals.{In-Ok}
 
--- the entry at the place
-here : (c : After-length_at-n)
-    → Turn c.args.list.now c.loop-at.at c.length_at-n.result
-here c =
-    turn c.args.list.now c.loop-at.at c.loop-at-test.true c.loop-at.invariant.2 c.length_at-n.result c.length_at-n.ensures.0
+-- what a turn takes, and the room for its record
+given : (c : In-Ok) → Gives c.loop-message.message-iterator (Some (Ok c.in-Ok.given)) c.next.new.self
+given c = subst (λ (r : Result Message Refusal). Gives c.loop-message.message-iterator (Some r) c.next.new.self) c.in-Ok.is c.in-Some.ensures.steps
 
--- its data as it is lent, and the room for its record
-lent : (c : After-length_at-n)
-    → let at = c.loop-at.at in
-    length (take (at + 3 + c.length_at-n.result - (at + 3)) (drop (at + 3) c.args.list.now)) ≡ c.length_at-n.result
-lent c =
-    ap length (body_part c.args.list.now c.loop-at.at c.length_at-n.result) ∙ (here c).long
-
-room : (c : After-length_at-n)
-    → let s = c.args.list.now in
-    let x : Entry = record { id = byte s c.loop-at.at; body = body_in c.length_at-n.result (drop c.loop-at.at s) } in
-    let next = left_of s (c.loop-at.at + 3 + c.length_at-n.result) in
-    let to = c.loop-at.to + (5 + c.length_at-n.result) in
-    (to + length next ≤ length c.loop-at.buf)
-    × (placed c.loop-at.buf c.loop-at.to (left_of s c.loop-at.at) ≡ placed (placed c.loop-at.buf c.loop-at.to (record_of x)) to next)
+room : (c : In-Ok)
+    → let s = left c.loop-message.message-iterator in
+    let t = left c.next.new.self in
+    let to = c.loop-message.to + (5 + length c.in-Ok.given.data.now) in
+    (to + length (records_in t) ≤ length c.loop-message.buf)
+    × (placed c.loop-message.buf c.loop-message.to (records_in s)
+    ≡ placed (placed c.loop-message.buf c.loop-message.to (record_of (taken c.in-Ok.given))) to (records_in t))
 room c =
-    written_one c.args.list.now c.loop-at.at c.length_at-n.result (here c) c.loop-at.buf c.loop-at.to c.loop-at.invariant.3
+    let l = c.loop-message in
+    written_one l.message-iterator c.next.new.self c.in-Ok.given (given c) l.invariant.2 l.buf l.to l.invariant.3
 
-pub loop-at-init : goal.loop-at-init
-loop-at-init c =
-    let a = c.args in
-    let e = unrefused a.list.now c.requires.0 in
-    let n : length (left_of a.list.now 0) ≤ length a.buf.now = subst (λ (k : Contents). length (records_in k) ≤ length a.buf.now) e c.requires.1 in
-    (omega arith, refl, subst Entire e (entire a.list.now c.requires.0), omega arith, refl)
+pub loop-message-init : goal.loop-message-init
+loop-message-init c =
+    rw c.into_iter-message-iterator.ensures.into_iter_gives (tt, refl, entire c.args.messages c.requires.0, omega (arith, c.requires.1), refl)
 
 pub put_record-requires : goal.put_record-requires
 put_record-requires c =
-    (omega (arith, lent (goal.at.put_record-requires c).After-length_at-n, (here (goal.at.put_record-requires c).After-length_at-n).small), omega (arith, lent (goal.at.put_record-requires c).After-length_at-n, (room (goal.at.put_record-requires c).After-length_at-n).0))
+    let i = (goal.at.put_record-requires c).In-Ok in
+    (omega (arith, small c.loop-message.message-iterator c.next.new.self c.in-Ok.given (given i)), omega (arith, (room i).0))
 
-pub loop-at-preserved : goal.loop-at-preserved
-loop-at-preserved c =
-    let s = c.args.list.now in
-    let n = c.length_at-n.result in
-    let b = c.loop-at.buf in
-    let body = body_part s c.loop-at.at n in
-    let done : c.put_record.new.buf ≡ placed b c.loop-at.to (record_of (record { id = byte s c.loop-at.at; body = body_in n (drop c.loop-at.at s) })) =
-    c.put_record.ensures ∙ (λ k. placed b c.loop-at.to (record_of (record { id = byte s c.loop-at.at; body = body k }))) in
-    let long : length c.put_record.new.buf ≡ length b = ap length done ∙ length_placed _ _ _ in (
-      (here (goal.at.loop-at-preserved c).After-length_at-n).within,
-      long ∙ c.loop-at.invariant.1,
-      (here (goal.at.loop-at-preserved c).After-length_at-n).rest,
-      omega (arith, (room (goal.at.loop-at-preserved c).After-length_at-n).0, long),
-      (λ k. placed (done k) (c.loop-at.to + (5 + n)) (left_of s (c.loop-at.at + 3 + n))) ∙ sym (room (goal.at.loop-at-preserved c).After-length_at-n).1 ∙ c.loop-at.invariant.4,
+pub overflow_add-to-in-loop-message : goal.overflow_add-to-in-loop-message
+overflow_add-to-in-loop-message c = omega (arith, (room (goal.at.overflow_add-to-in-loop-message c).In-Ok).0)
+
+pub returns-in_default : goal.returns-in_default
+returns-in_default c =
+    let r = c.in_default.field-0 in
+    let l = c.loop-message in
+    let q : Gives l.message-iterator (Some (Err r)) c.next.new.self =
+    subst (λ (t : Result Message Refusal). Gives l.message-iterator (Some t) c.next.new.self) c.in_default.is c.in-Some.ensures.steps in
+    absurd (subst Entire q.0 l.invariant.2)
+
+pub loop-message-preserved : goal.loop-message-preserved
+loop-message-preserved c =
+    let i = (goal.at.loop-message-preserved c).In-Ok in
+    let l = c.loop-message in
+    let r = room i in
+    let long : length c.put_record.new.buf ≡ length l.buf = ap length c.put_record.ensures ∙ length_placed _ _ _ in (
+      tt,
+      long ∙ l.invariant.1,
+      rest_entire l.message-iterator c.next.new.self c.in-Ok.given (given i) l.invariant.2,
+      omega (arith, r.0, long),
+      ap (λ (b : List ℕ). placed b (l.to + (5 + length c.in-Ok.given.data.now)) (records_in (left c.next.new.self))) c.put_record.ensures
+          ∙ sym r.1
+          ∙ l.invariant.4,
     )
 
 pub returns : goal.returns
 returns c =
-    let a = c.args in
-    let b = c.loop-at.buf in
-    let e : left_of a.list.now c.loop-at.at ≡ [] = none_left a.list.now c.loop-at.at c.loop-at-test.false in
-    sym (ap (placed b c.loop-at.to) e ∙ placed_nil b c.loop-at.to)
-    ∙ c.loop-at.invariant.4
-    ∙ ap (λ (k : Contents). placed a.buf.now 0 (records_in k)) (sym (unrefused a.list.now c.requires.0))
-
-pub slice_bounds-put_record-end : goal.slice_bounds-put_record-end
-slice_bounds-put_record-end c = (here (goal.at.slice_bounds-put_record-end c).After-length_at-n).within
+    let l = c.loop-message in
+    sym (ap (placed l.buf l.to) (none_left (left l.message-iterator) c.in-None.ensures.steps.0) ∙ placed_nil l.buf l.to) ∙ l.invariant.4

@@ -1,18 +1,15 @@
--- `put_records` meets its contract. The loop's invariant: what is left of the list is not refused, it fits, and with its records placed
--- the buffer is what it is to be.
-use mathlib.Core.Path.{◌≡◌}
-use Prim.Native.Nat.{◌+◌, ◌-◌, ◌≤◌}
-use lib.ListN.{length, drop}
+-- `put_records` meets its contract. The loop's invariant: what is left is not refused, it fits, and with its records placed the buffer is
+-- what it is to be.
+use Rattle.std.proofs.Common.{◌≡◌, ◌+◌, ◌≤◌, length}
 use Rattle.octets.specs.Placing.{placed}
-use Rattle.batch.specs.Entries.{contents_of}
-use Rattle.journal.proofs.WritingLaws.{Entire, left_of}
+use Rattle.batch.specs.Walks.{left}
+use Rattle.journal.specs.Calls.{records_in}
+use Rattle.journal.proofs.WritingLaws.{Entire}
 use Rattle.journal.proofs.put_records.Given as goal
 
--- the buffer is what it is to be.
-abbrev pub invariant-loop-at : goal.invariant-loop-at
-invariant-loop-at l =
-    (l.at ≤ length l.list) × (length l.buf ≡ length l.initial.buf) × Entire (contents_of (drop l.at l.list)) × (l.to + length (left_of l.list l.at) ≤ length l.buf)
-    × (placed l.buf l.to (left_of l.list l.at) ≡ placed l.initial.buf 0 (left_of l.list 0))
-
-abbrev pub decreases-loop-at : goal.decreases-loop-at
-decreases-loop-at l = length l.list - l.at
+abbrev pub invariant-loop-message : goal.invariant-loop-message
+invariant-loop-message l =
+    (goal.iterator-loop-message).can_next l.message-iterator
+    × (length l.buf ≡ length l.initial.buf) × Entire (left l.message-iterator)
+    × (l.to + length (records_in (left l.message-iterator)) ≤ length l.buf)
+    × (placed l.buf l.to (records_in (left l.message-iterator)) ≡ placed l.initial.buf 0 (records_in (left l.fn.messages)))

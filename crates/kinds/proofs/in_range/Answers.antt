@@ -1,6 +1,7 @@
 -- `in_range` meets its contract: each arm knows the row, and every other row is free.
-use mathlib.Core.Path.{sym}
-use borrow.Author.Tests.{ne_eqb}
+use Rattle.std.proofs.lemmas.Grind.{common_steps}
+use native.Mathlib.Omega.{arith}
+use Rattle.std.proofs.Common.{ne_eqb}
 use Rattle.kinds.specs.Kinds.{table, row_in}
 use Rattle.kinds.proofs.RowLaws.{free_in_range}
 use Rattle.kinds.proofs.in_range.Goals as goal
@@ -42,18 +43,4 @@ unfolding table row_in
 returns-in-82 c = rw c.in-82.is c.in_52.ensures
 
 pub returns-in_default : goal.returns-in_default
-returns-in_default c =
-    let r = c.in_default.in_default-own.rest in
-    let a = r.0.0.0.0 in
-    sym (free_in_range _ _
-    (rw (
-      ne_eqb _ _ a.0.0.0.0.1,
-      ne_eqb _ _ a.0.0.0.1,
-      ne_eqb _ _ a.0.0.1,
-      ne_eqb _ _ a.0.1,
-      ne_eqb _ _ a.1,
-      ne_eqb _ _ r.0.0.0.1,
-      ne_eqb _ _ r.0.0.1,
-      ne_eqb _ _ r.0.1,
-      ne_eqb _ _ r.1,
-    )))
+returns-in_default c = grind (arith, common_steps, free_in_range, ne_eqb)

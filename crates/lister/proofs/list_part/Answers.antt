@@ -1,23 +1,12 @@
 -- `list_part` meets its contract. The loop's invariant is `Turn`; each turn takes a byte or is the last.
-use mathlib.Core.Path.{◌≡◌, sym, subst, subst⁻¹}
-use mathlib.Core.List.{List}
-use Prim.Native.Nat.{ℕ, ◌+◌, ◌-◌, ◌^◌, ◌≤◌, ◌<◌}
-use native.Mathlib.Omega.{arith}
-use borrow.Author.Rules.{rules}
-use lib.ListN.{length, take, drop, length-drop}
-use lib.Seq.{length-take-le}
+use Rattle.std.proofs.Common.{◌≡◌, subst, List, ℕ, ◌+◌, ◌-◌, ◌^◌, ◌≤◌, ◌<◌, arith, rules, length, take, drop, length-drop, length-take-le}
 use Rattle.record.specs.View.{record_of}
 use Rattle.record.specs.Posts.{FeedPost, InPlacePost, fed_of}
-use Rattle.record.specs.declared.InPlace.{InPlace}
 use Rattle.reader.proofs.Giving.{feeds}
-use Rattle.lister.specs.Posts.{PartPost}
 use Rattle.lister.proofs.FeedLaws.{line_from, offered_in}
 use Rattle.lister.proofs.Turns.{turn_none, part_offered, part_placed, turn_within, turn_room, turn_fed, turn_more, turn_last}
 use Rattle.lister.proofs.list_part.Goals as goal
-use Rattle.lister.proofs.list_part.Goals.{After-feed_in_place-x, After-put_line-to, Else-x-eq0, Start}
-
-start_whole : (c : Start) → length c.args.r.bytes ≡ 1024
-start_whole c = search rules
+use Rattle.lister.proofs.list_part.Goals.{After-feed_in_place-x, After-put_line-to}
 
 -- what the slice call was given, and answered
 fed : (c : After-feed_in_place-x)
@@ -34,10 +23,6 @@ fed c =
     (subst (λ (z : List ℕ). InPlacePost c.loop-x.x.head c.loop-x.x.latest c.loop-x.d a z x)
     (part_offered s at room c.offer-end.result c.offer-end.ensures) c.feed_in_place-x.ensures)
 
--- where something was taken: it lies within the slice, and there was room for a line
-some : (c : Else-x-eq0) → 0 < c.feed_in_place-x.result.taken
-some c = omega arith
-
 -- the part of the buffer that is lent is what is left of it
 lent : (b : List ℕ) (to : ℕ) → length (take (length b - to) (drop to b)) ≡ length b - to
 lent b to = let n = length-drop to b in length-take-le (length b - to) (drop to b) (omega arith)
@@ -49,25 +34,13 @@ fits c =
     omega (arith, c.put_line-to.ensures.2, lent c.loop-x.buf c.loop-x.to, c.loop-x.invariant.0.room)
 
 pub loop-x-init : goal.loop-x-init
-loop-x-init c = (turn_none _ _ _, start_whole (goal.at.loop-x-init c).Start)
+loop-x-init c = (turn_none _ _ _, search rules)
 
-pub returns-then-x-eq0 : goal.returns-then-x-eq0
-returns-then-x-eq0 c =
-    let x = c.args in
-    let y = fed_of c.feed_in_place-x.result c.feed_in_place-x.new.d in
-    let w = c.loop-x.invariant.0 in
-    let at = c.loop-x.at in
-    let to = c.loop-x.to in
-    record {
-      part =
-          subst
-          (λ (z : InPlace). PartPost (record_of z.head z.latest x.r.bytes) x.s.now x.buf.now (record { reader = y.reader; refusal = c.number.result; taken = at; length = to }) c.loop-x.buf)
-          c.begin-x.ensures
-          (subst⁻¹
-          (λ (v : ℕ). PartPost (record_of c.begin-x.result.head c.begin-x.result.latest x.r.bytes) x.s.now x.buf.now (record { reader = y.reader; refusal = v; taken = at; length = to }) c.loop-x.buf)
-          c.number.ensures (turn_last w y (fed (goal.at.returns-then-x-eq0 c).After-feed_in_place-x) c.if-x-eq0.true));
-      counts = (w.within, (w.room, sym (length-take-le to c.loop-x.buf w.room)));
-    }
+pub returns-then-x-eq0-clause-part : goal.returns-then-x-eq0-clause-part
+returns-then-x-eq0-clause-part c =
+    rw c.begin-x.ensures at
+    (turn_last c.loop-x.invariant.0 (fed_of c.feed_in_place-x.result c.feed_in_place-x.new.d) (fed (goal.at.returns-then-x-eq0-clause-part c).After-feed_in_place-x)
+    c.refusal.result c.refusal.ensures c.if-x-eq0.true)
 
 pub overflow_add-at : goal.overflow_add-at
 overflow_add-at c =
@@ -76,15 +49,15 @@ overflow_add-at c =
 
 pub overflow_sub-offset : goal.overflow_sub-offset
 overflow_sub-offset c =
-    turn_fed c.loop-x.invariant.0 (fed_of c.feed_in_place-x.result c.feed_in_place-x.new.d) (fed (goal.at.overflow_sub-offset c).After-feed_in_place-x) (some (goal.at.overflow_sub-offset c).Else-x-eq0)
+    turn_fed c.loop-x.invariant.0 (fed_of c.feed_in_place-x.result c.feed_in_place-x.new.d) (fed (goal.at.overflow_sub-offset c).After-feed_in_place-x) (omega arith)
 
 pub put_line-to-requires : goal.put_line-to-requires
 put_line-to-requires c =
-    rw (lent c.loop-x.buf c.loop-x.to) (turn_room c.loop-x.invariant.0 (fed_of c.feed_in_place-x.result c.feed_in_place-x.new.d) (fed (goal.at.put_line-to-requires c).After-feed_in_place-x) (some (goal.at.put_line-to-requires c).Else-x-eq0))
+    rw (lent c.loop-x.buf c.loop-x.to) (turn_room c.loop-x.invariant.0 (fed_of c.feed_in_place-x.result c.feed_in_place-x.new.d) (fed (goal.at.put_line-to-requires c).After-feed_in_place-x) (omega arith))
 
 pub loop-x-smaller : goal.loop-x-smaller
 loop-x-smaller c =
-    omega (arith, turn_within c.loop-x.invariant.0 (fed_of c.feed_in_place-x.result c.feed_in_place-x.new.d) (fed (goal.at.loop-x-smaller c).After-feed_in_place-x), some (goal.at.loop-x-smaller c).Else-x-eq0)
+    omega (arith, turn_within c.loop-x.invariant.0 (fed_of c.feed_in_place-x.result c.feed_in_place-x.new.d) (fed (goal.at.loop-x-smaller c).After-feed_in_place-x))
 
 pub loop-x-preserved : goal.loop-x-preserved
 loop-x-preserved c =
@@ -93,7 +66,7 @@ loop-x-preserved c =
     let b = c.loop-x.buf in
     let to = c.loop-x.to in
     let line-fits : to + length (line_from y) ≤ length b = omega (arith, c.put_line-to.ensures.0, fits (goal.at.loop-x-preserved c).After-put_line-to) in (
-      turn_more c.loop-x.invariant.0 y (fed (goal.at.loop-x-preserved c).After-feed_in_place-x) _ c.put_line-to.result (some (goal.at.loop-x-preserved c).Else-x-eq0) c.put_line-to.ensures.0 (fits (goal.at.loop-x-preserved c).After-put_line-to)
+      turn_more c.loop-x.invariant.0 y (fed (goal.at.loop-x-preserved c).After-feed_in_place-x) _ c.put_line-to.result (omega arith) c.put_line-to.ensures.0 (fits (goal.at.loop-x-preserved c).After-put_line-to)
           (part_placed b (line_from y) c.put_line-to.new.buf to line-fits c.put_line-to.ensures.1),
       c.feed_in_place-x.ensures.whole c.loop-x.invariant.1,
     )

@@ -1,7 +1,5 @@
 -- `list_part` meets its contract. The loop's invariant is `Turn`; each turn takes a byte or is the last.
-use mathlib.Core.Path.{◌≡◌}
-use Prim.Native.Nat.{◌-◌}
-use lib.ListN.{length}
+use Rattle.std.proofs.Common.{◌≡◌, ◌-◌, length}
 use Rattle.record.specs.View.{record_of}
 use Rattle.lister.proofs.Turns.{Turn}
 use Rattle.lister.proofs.list_part.Given as goal

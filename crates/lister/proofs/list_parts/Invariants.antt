@@ -1,6 +1,5 @@
 -- `list_parts` meets its contract. The loop's invariant is `Underway`; each turn takes a byte or is the last.
-use Prim.Native.Nat.{◌-◌}
-use lib.ListN.{length}
+use Rattle.std.proofs.Common.{◌-◌, length}
 use Rattle.record.specs.View.{view}
 use Rattle.lister.specs.Listing.{text}
 use Rattle.lister.proofs.Parts.{Underway}

@@ -1,6 +1,8 @@
 -- `event_line` meets its contract: the line is put straight into a buffer that has room for the longest, and else composed apart.
+use mathlib.Core.Path.{◌≡◌}
 use mathlib.Core.List.{List}
 use Prim.Native.Nat.{ℕ}
+use lib.ListN.{length}
 use native.Mathlib.Omega.{arith}
 use Rattle.listing.specs.Text.{event_line}
 use Rattle.listing.proofs.LineLaws.{line_placed, line_delivered}
@@ -18,6 +20,8 @@ returns-then-buf-ge-LONGEST_EVENT c =
 
 pub returns : goal.returns
 returns c =
+    let t = text (goal.at.returns c).Start in
     let e = c.put_event-n.ensures in
     let k = c.put_event-n.auto.line in
-    record { value = line_delivered (text (goal.at.returns c).Start) _ c.put_event-n.new.line c.args.buf.now _ e.0 e.1 (omega (arith, e.2)) c.deliver.ensures; longest = omega (arith, e.0, e.2) }
+    let n : c.put_event-n.result ≡ length t = omega (arith, e.0) in
+    record { value = line_delivered t _ c.put_event-n.new.line c.args.buf.now _ n e.1 (omega (arith, e.2)) c.deliver.ensures; longest = omega (arith, n, e.2) }

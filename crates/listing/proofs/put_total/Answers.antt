@@ -13,11 +13,11 @@ use Rattle.listing.proofs.put_total.Goals.{Start}
 
 -- the line is within the longest
 room : (g : Start)
-    → let a = g.args in 5 + length (decimals (a.fed ∷ a.accepted ∷ a.refused ∷ a.outside ∷ a.pending ∷ [])) + 1 ≤ longest_total
+    → let a = g.args in 5 + length (decimals (a.t.fed ∷ a.t.accepted ∷ a.t.refused ∷ a.t.outside ∷ a.t.pending ∷ [])) + 1 ≤ longest_total
 room g =
     let a = g.args in
-    let k = total_longest a.fed a.accepted a.refused a.outside a.pending (search rules) (search rules) (search rules) (search rules) (search rules) in
-    omega (arith, total_length a.fed a.accepted a.refused a.outside a.pending)
+    let k = total_longest a.t.fed a.t.accepted a.t.refused a.t.outside a.t.pending (search rules) (search rules) (search rules) (search rules) (search rules) in
+    omega (arith, total_length a.t.fed a.t.accepted a.t.refused a.t.outside a.t.pending)
 
 pub put_decimals-past_numbers-requires : goal.put_decimals-past_numbers-requires
 put_decimals-past_numbers-requires c =
@@ -31,15 +31,15 @@ pub returns : goal.returns
 returns c =
     let x = c.args in
     let k = c.put_decimals-past_numbers.result in
-    let ns : List ℕ = x.fed ∷ x.accepted ∷ x.refused ∷ x.outside ∷ x.pending ∷ [] in
-    let l = total_length x.fed x.accepted x.refused x.outside x.pending in
-    let word : c.put.new.buf ≡ placed x.line.now 0 (116 ∷ 111 ∷ 116 ∷ 97 ∷ 108 ∷ []) = c.put.ensures.1 in
-    let ek : k ≡ 5 + length (decimals ns) = c.put_decimals-past_numbers.ensures.0 in (
+    let ns : List ℕ = x.t.fed ∷ x.t.accepted ∷ x.t.refused ∷ x.t.outside ∷ x.t.pending ∷ [] in
+    let l = total_length x.t.fed x.t.accepted x.t.refused x.t.outside x.t.pending in
+    let word : c.put.new.buf ≡ placed x.line.now 0 (116 ∷ 111 ∷ 116 ∷ 97 ∷ 108 ∷ []) = search rules in
+    let ek : k ≡ 5 + length (decimals ns) = omega (arith, c.put_decimals-past_numbers.ensures.0) in (
       omega arith,
       c.put-2.ensures.1
           ∙ ap (λ (z : List ℕ). placed z k (newline ∷ [])) c.put_decimals-past_numbers.ensures.1
           ∙ ap (λ (z : List ℕ). placed (placed z 5 (decimals ns)) k (newline ∷ [])) word
-          ∙ total_parts x.fed x.accepted x.refused x.outside x.pending x.line.now k
+          ∙ total_parts x.t.fed x.t.accepted x.t.refused x.t.outside x.t.pending x.line.now k
           (omega (arith, room (goal.at.returns c).Start, c.requires)) ek,
       omega (arith, room (goal.at.returns c).Start),
     )

@@ -1,16 +1,8 @@
--- `numbers::int8_of` meets its contract: the laws of the two halves, at its width.
-use mathlib.Core.Path.{sym}
-use native.Mathlib.Omega.{arith}
-use mir.Syntax.{w8}
-use Rattle.numbers.proofs.SignedLaws.{UpperHalf, upper_half, signed_is}
+-- `numbers::int8_of` meets its contract: the two readings are the language's own.
+use Rattle.std.proofs.Common.{w8, arith}
+use Rattle.std.proofs.lemmas.Int.{ints}
+use Rattle.numbers.proofs.SignedLaws.{signed_is}
 use Rattle.numbers.proofs.int8_of.Goals as goal
-use Rattle.numbers.proofs.int8_of.Goals.{Else-low}
 
-up : (c : Else-low) → UpperHalf w8 c.args.b
-up c = upper_half w8 c.args.b (omega arith) (omega arith)
-
-pub returns-then-low : goal.returns-then-low
-returns-then-low c = sym (signed_is w8 c.args.b)
-
-pub returns-else-low : goal.returns-else-low
-returns-else-low c = (up c).is
+pub returns : goal.returns
+returns c = omega (arith, ints, signed_is w8 c.args.b)

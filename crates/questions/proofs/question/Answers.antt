@@ -1,10 +1,5 @@
 -- `record::question` meets its contract: questions 1 to 3, one after the other.
-use mathlib.Core.Path.{◌≡◌, refl, sym, ap, ◌∙◌}
-use mathlib.Core.Bool.{not}
-use Prim.Native.Nat.{ℕ, ◌≤◌, ◌<◌}
-use native.Mathlib.Omega.{arith}
-use borrow.Author.Rules.{rules}
-use lib.ListN.{length}
+use Rattle.std.proofs.Common.{◌≡◌, refl, sym, ap, ◌∙◌, not, ℕ, ◌≤◌, ◌<◌, arith, rules, length}
 use Rattle.line.specs.Record.{limit}
 use Rattle.latest.proofs.Deciding.{decided_yes, decided_no}
 use Rattle.record.specs.View.{record_of}
@@ -16,18 +11,6 @@ use Rattle.questions.proofs.question.Goals.{Joined-h-ge-F, Start, then-h-ge-F+el
 
 -- each way to answer
 module _ (r : Reader) (n : ℕ) where
-  refused_1 : 1 < r.head.mode → Questions r n 1
-  refused_1 h =
-      record {
-        one = λ z. refl;
-        two = λ z f. absurd (let w : ⊥ = omega arith in w);
-        three = λ z f. absurd (let w : ⊥ = omega arith in w);
-        rest = λ z f. absurd (let w : ⊥ = omega arith in w);
-        mode = λ e. absurd (let w : ⊥ = omega arith in w);
-        valid = λ e. absurd (let w : ⊥ = omega arith in w);
-        room = λ e. absurd (let w : ⊥ = omega arith in w);
-      }
-
   refused_2 : r.head.mode ≤ 1 → (Valid r → ⊥) → Questions r n 2
   refused_2 h f =
       record {

@@ -1,45 +1,25 @@
 -- `reader::fill` meets its contract: the bytes passed are stored, and none is DLE.
-use mathlib.Core.Path.{◌≡◌}
-use Prim.Native.Nat.{◌+◌, ◌-◌, ◌<◌}
-use native.Mathlib.Omega.{arith}
-use borrow.Author.Rules.{rules}
-use lib.ListN.{length, take}
-use lib.Seq.{length-take-le}
-use Rattle.reader.specs.Moving.{Copied}
-use Rattle.reader.proofs.Bulk.{copied_none, copied_more, copied_then, copied_beyond}
+use Rattle.std.proofs.Common.{◌≡◌, subst, ◌+◌, ◌-◌, ◌<◌, arith, rules, length, take, length-take-le}
+use Rattle.reader.specs.Moving.{Copied, Fills}
+use Rattle.reader.proofs.Bulk.{fills_of, copied_more, copied_then, copied_beyond}
 use Rattle.reader.proofs.fill.Goals as goal
-use Rattle.reader.proofs.fill.Goals.{After-bound-most, After-fill_fours-at}
-
--- the length of the slice up to the bound
-shorter : (b : After-bound-most) → length (take b.bound-most.result b.args.s.now) ≡ b.bound-most.result
-shorter b = length-take-le b.bound-most.result b.args.s.now (omega (arith, b.bound-most.ensures, b.requires))
+use Rattle.reader.proofs.fill.Goals.{After-fill_fours-at}
 
 -- what the fours stored, over the whole slice
 fours : (f : After-fill_fours-at) → Copied f.args.d.now f.fill_fours-at.new.d f.args.len f.args.s.now f.args.from f.fill_fours-at.result
 fours f =
     let x = f.args in
-    copied_beyond x.d.now _ x.s.now x.len x.from f.fill_fours-at.result f.bound-most.result (omega (arith, shorter (goal.at.loop-at-init f).After-bound-most, f.fill_fours-at.ensures.0)) f.fill_fours-at.ensures.1
-
-pub loop-at-init : goal.loop-at-init
-loop-at-init c =
-    let x = c.args in
-    let f = fours (goal.at.loop-at-init c).After-fill_fours-at in
-    (f.least, omega (arith, shorter (goal.at.loop-at-init c).After-bound-most, c.fill_fours-at.ensures.0), copied_none c.fill_fours-at.new.d x.s.now (x.len + (c.fill_fours-at.result - x.from)) c.fill_fours-at.result f.whole)
+    let r = f.bound-most.result in
+    let l : length (take r x.s.now) ≡ r = length-take-le r x.s.now (omega (arith, f.bound-most.ensures, f.requires)) in
+    copied_beyond x.d.now _ x.s.now x.len x.from f.fill_fours-at.result r (omega (arith, l, f.fill_fours-at.ensures.0)) f.fill_fours-at.ensures.1
 
 pub returns-then-b-eq-DLE : goal.returns-then-b-eq-DLE
 returns-then-b-eq-DLE c =
     let l = c.loop-at in
     let x = c.args in
     let z = copied_then x.d.now _ l.d x.s.now x.len x.from c.fill_fours-at.result l.at (fours (goal.at.returns-then-b-eq-DLE c).After-fill_fours-at) l.invariant.2 in
-    record {
-      least = z.least;
-      most = omega (arith, l.invariant.1, c.bound-most.ensures);
-      held = omega (arith, l.invariant.1, z.least, c.bound-most.ensures);
-      none = z.none;
-      stop = λ h n. absurd (n c.if-b-eq-DLE.true);
-      whole = z.whole;
-      same = z.same;
-    }
+    fills_of x.d.now l.d x.s.now x.len x.from x.n l.at z (omega (arith, l.invariant.1, c.bound-most.ensures))
+    (omega (arith, l.invariant.1, z.least, c.bound-most.ensures)) (λ h n. absurd (n c.if-b-eq-DLE.true))
 
 pub loop-at-preserved : goal.loop-at-preserved
 loop-at-preserved c =
@@ -56,13 +36,8 @@ pub returns : goal.returns
 returns c =
     let l = c.loop-at in
     let x = c.args in
+    let e : l.at ≡ c.bound-most.result = omega (arith, l.invariant.1, c.loop-at-test.false) in
     let z = copied_then x.d.now _ l.d x.s.now x.len x.from c.fill_fours-at.result l.at (fours (goal.at.returns c).After-fill_fours-at) l.invariant.2 in
-    record {
-      least = z.least;
-      most = omega (arith, l.invariant.1, c.bound-most.ensures);
-      held = omega (arith, l.invariant.1, z.least, c.bound-most.ensures);
-      none = z.none;
-      stop = λ h n. let w = c.bound-most.ensures.3 (omega arith) in omega (arith, w);
-      whole = z.whole;
-      same = z.same;
-    }
+    subst (Fills x.d.now l.d x.len x.s.now x.from x.n) e
+    (fills_of x.d.now l.d x.s.now x.len x.from x.n l.at z (omega (arith, l.invariant.1, c.bound-most.ensures))
+    (omega (arith, l.invariant.1, z.least, c.bound-most.ensures)) (λ h n. let w = c.bound-most.ensures.3 (omega arith) in omega (arith, w)))

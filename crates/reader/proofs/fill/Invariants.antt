@@ -1,5 +1,5 @@
 -- `reader::fill` meets its contract: the bytes passed are stored, and none is DLE.
-use Prim.Native.Nat.{◌+◌, ◌-◌, ◌≤◌}
+use Rattle.std.proofs.Common.{◌+◌, ◌-◌, ◌≤◌}
 use Rattle.reader.specs.Moving.{Copied}
 use Rattle.reader.proofs.fill.Given as goal
 

@@ -1,6 +1,5 @@
 -- `reader::fill_fours` meets its contract: four bytes a turn, none of them DLE.
-use Prim.Native.Nat.{◌-◌, ◌≤◌}
-use lib.ListN.{length}
+use Rattle.std.proofs.Common.{◌-◌, ◌≤◌, length}
 use Rattle.reader.specs.Moving.{Copied}
 use Rattle.reader.proofs.fill_fours.Given as goal
 

@@ -1,24 +1,15 @@
 -- `reader::in_e` meets its contract: the table in E.
-use mathlib.Core.Path.{◌≡◌, refl, sym, ap, ◌∙◌, subst}
-use Prim.Native.Nat.{ℕ, ◌+◌}
-use native.Mathlib.Omega.{arith}
-use lib.ListN.{take}
-use Rattle.line.specs.Frame.{mode_of}
-use Rattle.line.specs.Table.{pending}
-use Rattle.line.specs.Table.State.{E, ED}
-use Rattle.record.specs.View.{place_of}
-use Rattle.reader.specs.Moving.{Moves}
-use Rattle.reader.specs.declared.Moved.{Moved}
-use Rattle.line.specs.Frame.{Class, class_of}
+use Rattle.std.proofs.Common.{◌≡◌, refl, ℕ, List, ◌+◌, arith}
+use Rattle.line.specs.Frame.{Mode, Class, mode_of, class_of}
 use Rattle.line.specs.Frame.Class.{dle, etx, sum, other}
-use Rattle.line.specs.Table.{next, refuse}
+use Rattle.line.specs.Table.{pending, next, refuse}
+use Rattle.line.specs.Table.State.{E}
 use Rattle.line.proofs.Classes.{dle_is}
-use Rattle.reader.proofs.Stepping.{row_at}
-use Rattle.record.proofs.Data.{is_dle}
-use Rattle.reader.proofs.Rows.{in_place, steps_went, steps_refused}
-use mathlib.Core.List.{List}
-use Rattle.line.specs.Frame.{Mode}
 use Rattle.line.proofs.Reading.{is}
+use Rattle.record.specs.View.{place_of}
+use Rattle.record.proofs.Data.{is_dle}
+use Rattle.refusals.specs.declared.Refusal.TheVariants.{EndMissing}
+use Rattle.reader.proofs.Rows.{steps_went, steps_refused}
 use Rattle.reader.proofs.in_e.Goals as goal
 
 -- a byte that is no DLE, in E
@@ -34,23 +25,9 @@ e_other m id d c1 c2 b n = by (class_of b) refl
 
 pub returns-then-b-eq-DLE : goal.returns-then-b-eq-DLE
 unfolding place_of
-returns-then-b-eq-DLE c k a w h =
-    let x = c.args in
-    let p = c.requires in
-    subst (λ (t : Moved). Moves k x.m a a x.b x.at x.n t) (sym c.go.ensures)
-    (steps_went k x.m a x.b x.at x.n p.le_at.0 p.fits x.m.c1 x.m.c2 7
-    (ED x.m.id (take x.m.len a) x.m.c1 x.m.c2)
-    (row_at (mode_of k) x.b (in_place x.m a 6 p.le_at.2) (is_dle x.b c.if-b-eq-DLE.true) refl) refl (omega arith) h)
+returns-then-b-eq-DLE c k a h = rw c.go.ensures (steps_went c.requires.taken (is_dle c.args.b c.if-b-eq-DLE.true) refl refl (omega arith) h.pends)
 
 pub returns-else-b-eq-DLE : goal.returns-else-b-eq-DLE
 unfolding place_of
-returns-else-b-eq-DLE c k a w h =
-    let x = c.args in
-    let p = c.requires in
-    let here = in_place x.m a 6 p.le_at.2 in
-    subst (λ (t : Moved). Moves k x.m a a x.b x.at x.n t) (sym c.shut.ensures)
-    (steps_refused k x.m a x.b x.at x.n p.le_at.0 p.fits 8
-    (ap (λ s. next (mode_of k) s x.b) here
-    ∙ e_other (mode_of k) x.m.id (take x.m.len a) x.m.c1 x.m.c2 x.b c.if-b-eq-DLE.false
-    ∙ ap (λ s. refuse 8 x.m.id (pending s + 1)) (sym here))
-    (omega (arith, p.le_at.3)) h)
+returns-else-b-eq-DLE c k a h =
+    rw c.shut.ensures (steps_refused c.requires.taken EndMissing refl (e_other (mode_of k) _ _ _ _ _ c.if-b-eq-DLE.false) (omega arith) h.pends)

@@ -1,7 +1,5 @@
 -- `reader::run` meets its contract: the invariant says what is left to do.
-use mathlib.Core.Path.{◌≡◌}
-use Prim.Native.Nat.{◌+◌, ◌-◌, ◌≤◌}
-use lib.ListN.{length}
+use Rattle.std.proofs.Common.{◌≡◌, ◌+◌, ◌-◌, ◌≤◌, length}
 use Rattle.reader.specs.Moving.{Pends, Sound, Fits}
 use Rattle.reader.proofs.Feeding.{Left}
 use Rattle.reader.proofs.run.Given as goal

@@ -1,11 +1,7 @@
 -- `stuffing::four_plain` meets its contract.
-use mathlib.Core.Bool.{false, ◌&&◌}
-use mathlib.Core.List.{List}
-use mathlib.Core.Path.{◌≡◌}
-use Prim.Native.Nat.{ℕ, ◌+◌, ◌≤◌, ◌<◌}
-use native.Mathlib.Omega.{arith}
-use borrow.Author.Tests.{lt-leb, le-leb}
-use lib.ListN.{length, get_or}
+use Rattle.std.proofs.Common.{false, ◌&&◌, List, ◌≡◌, ℕ, ◌+◌, ◌≤◌, ◌<◌, arith, le-leb, length, get_or}
+use borrow.Author.Tests.{lt-leb}
+use Rattle.std.proofs.lemmas.Grind.{common_steps}
 use Rattle.stuffing.specs.Stuffing.{other, four_plain}
 use Rattle.stuffing.proofs.four_plain.Goals as goal
 
@@ -19,10 +15,7 @@ unfolding four_plain
 long s i l = rw (le-leb (i + 4) (length s) l)
 
 pub returns-then-s-lt4 : goal.returns-then-s-lt4
-returns-then-s-lt4 c = short c.args.s.now c.args.at (omega arith)
-
-pub returns-then-s-at : goal.returns-then-s-at
-returns-then-s-at c = short c.args.s.now c.args.at (omega arith)
+returns-then-s-lt4 c = short c.args.s.now c.args.at (grind (arith, common_steps))
 
 pub returns : goal.returns
 returns c =

@@ -1,0 +1,8 @@
+-- `read` meets its contract: field by field, by what the readers ensure.
+use Rattle.std.proofs.Common.{rules}
+use Rattle.fields_20.specs.Fields.{fields_of}
+use Rattle.fields_20.proofs.SatelliteFields.read.Goals as goal
+
+pub returns : goal.returns
+unfolding fields_of
+returns c = search rules

@@ -1,9 +1,0 @@
--- `encode_43` meets its contract: the words and their widths are those of the rows.
-use Rattle.rows.specs.Layout.{joined, laid, total, short, packs, packed}
-use Rattle.fields_43.specs.Fields.{data_of}
-use Rattle.fields_43.proofs.encode_43.Goals as goal
-
-pub returns : goal.returns
-unfolding data_of joined laid total short packs packed
-returns c =
-    rw c.words_43.ensures at c.encode.ensures

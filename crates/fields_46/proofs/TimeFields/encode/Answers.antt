@@ -1,0 +1,9 @@
+-- `encode` meets its contract: the words and their widths are those of the rows.
+use Rattle.rows.specs.Layout.{joined, laid, total, short, packs, packed}
+use Rattle.fields_46.specs.Fields.{data_of}
+use Rattle.fields_46.proofs.TimeFields.encode.Goals as goal
+
+pub returns : goal.returns
+unfolding data_of joined laid total short packs packed
+returns c =
+    rw c.words_of.ensures at c.encode.ensures

@@ -1,9 +1,0 @@
--- `encode_46` meets its contract: the words and their widths are those of the rows.
-use Rattle.rows.specs.Layout.{joined, laid, total, short, packs, packed}
-use Rattle.fields_46.specs.Fields.{data_of}
-use Rattle.fields_46.proofs.encode_46.Goals as goal
-
-pub returns : goal.returns
-unfolding data_of joined laid total short packs packed
-returns c =
-    rw c.words_46.ensures at c.encode.ensures

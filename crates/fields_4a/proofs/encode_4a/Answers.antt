@@ -1,9 +1,0 @@
--- `encode_4a` meets its contract: the words and their widths are those of the rows.
-use Rattle.rows.specs.Layout.{joined, laid, total, short, packs, packed}
-use Rattle.fields_4a.specs.Fields.{data_of}
-use Rattle.fields_4a.proofs.encode_4a.Goals as goal
-
-pub returns : goal.returns
-unfolding data_of joined laid total short packs packed
-returns c =
-    rw c.words_4a.ensures at c.encode.ensures

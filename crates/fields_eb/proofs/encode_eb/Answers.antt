@@ -1,9 +1,0 @@
--- `encode_eb` meets its contract: the words and their widths are those of the rows.
-use Rattle.rows.specs.Layout.{joined, laid, total, short, packs, packed}
-use Rattle.fields_eb.specs.Fields.{data_of}
-use Rattle.fields_eb.proofs.encode_eb.Goals as goal
-
-pub returns : goal.returns
-unfolding data_of joined laid total short packs packed
-returns c =
-    rw c.words_eb.ensures at c.encode.ensures
