@@ -1,13 +1,41 @@
 // What the test programs share: how they read calls, a line each, lay out a list that a call gives in parts, and print bytes.
 #![tactic(auto)]
 
-ghost use Rattle.std.specs.Prelude.{◌≡◌, ◌≤◌, length, IfSome};
+ghost use Rattle.std.specs.Prelude.{◌≡◌, IsOk};
 ghost use Rattle.answering.specs.Digest.{digested};
+ghost use Rattle.answering.specs.Parts.{laid, laid_into};
 
 use refusals::Refusal;
 use std::fmt::Display;
 use std::io::Result as IoResult;
 use std::iter;
+
+// Prints by what it holds, but goes on where that fails: what can't be written is left out, and the next print is tried again.
+#[derive(Drop)]
+pub struct Regardless<P>(pub P);
+
+impl<P: Print> Print for Regardless<P> {
+    fn print<D: Display + Drop>(&self, value: D) -> IoResult<()>
+        ensures { IsOk result }
+    {
+        let _ = self.0.print(value);
+        Ok(())
+    }
+
+    fn println<D: Display + Drop>(&self, value: D) -> IoResult<()>
+        ensures { IsOk result }
+    {
+        let _ = self.0.println(value);
+        Ok(())
+    }
+
+    fn write_all(&self, bytes: &[u8]) -> IoResult<()>
+        ensures { IsOk result }
+    {
+        let _ = self.0.write_all(bytes);
+        Ok(())
+    }
+}
 
 // Prints these numbers, each after a space.
 pub fn print_numbers<N: Display>(rt: &impl Print, numbers: &[N]) -> IoResult<()> {
@@ -93,11 +121,11 @@ pub fn digest(before: u64, s: &[u8]) -> u64
 // then bytes. So many of these are a part, which is laid down so many times, as often as there is room; the rest follows it once.
 // How much of the buffer that takes; nothing where bytes of the call are missing or the rest has no room.
 pub fn lay_out(call: &[u8], buf: &mut [u8]) -> Option<usize>
-    ensures { IfSome result (λ n. n ≤ length buf.new) }
+    ensures { (result ≡ laid call.now buf.old) × (buf.new ≡ laid_into call.now buf.old) }
 {
-    let (given, bytes) = call.split_at_checked(6)?;
-    let count = numbers::u16_at(given, 2);
-    let length = usize::from(numbers::u16_at(given, 4));
+    let (_, bytes) = call.split_at_checked(6)?;
+    let count = numbers::u16_at(call, 2);
+    let length = usize::from(numbers::u16_at(call, 4));
     let (part, tail) = bytes.split_at_checked(length)?;
     let mut at = 0;
     for _ in 0..count {

@@ -26,7 +26,7 @@
 
 ghost use Rattle.std.specs.Prelude.{◌≤◌, length};
 
-use answering::{print_answer, print_octets};
+use answering::{Regardless, print_answer, print_octets};
 use latest::Latest;
 use record::{Head, Reader};
 use refusals::Refusal;
@@ -290,6 +290,7 @@ fn show_published(rt: &impl Print) -> io::Result<()> {
 }
 
 fn main(rt: HostRuntime) -> io::Result<()> {
+    let rt = Regardless(rt);
     show_published(&rt)?;
     let mut input = [0u8; 65536];
     let mut bytes = [0u8; 256];

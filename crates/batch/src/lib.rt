@@ -5,7 +5,7 @@ ghost use Rattle.std.specs.Prelude.{◌≡◌, ◌≤◌, drop, length, IfOk};
 ghost use Rattle.std.specs.Iterator.{at_most};
 ghost use Rattle.batch.specs.Entries.{header, header_of, limit, list_of};
 ghost use Rattle.batch.specs.Times.{time, time_for};
-ghost use Rattle.batch.specs.Walks.{GivesFirst};
+ghost use Rattle.batch.specs.Walks.{Splits, GivesFirst};
 
 use refusals::Refusal;
 
@@ -33,19 +33,27 @@ pub struct LineTime {
     pub bits: usize,
 }
 
+// The first entry of these bytes as it stands, not judged, and the bytes after it; none where they end before it does.
+pub fn split_entry(list: &[u8]) -> Option<(Message<'_>, &[u8])>
+    ensures { Splits list.now result }
+{
+    let [id, low, high, after @ ..] = list else {
+        return None;
+    };
+    let n = usize::from(u16::from_le_bytes([*low, *high]));
+    let Some((data, rest)) = after.split_at_checked(n) else {
+        return None;
+    };
+    Some((Message { id: *id, data }, rest))
+}
+
 // The first message of these bytes, and the bytes after it.
 fn split_first(list: &[u8]) -> Result<(Message<'_>, &[u8]), Refusal>
     ensures { GivesFirst list.now result }
 {
-    let [id, low, high, after @ ..] = list else {
-        return Err(Refusal::List);
-    };
-    let n = usize::from(u16::from_le_bytes([*low, *high]));
-    let Some((data, rest)) = after.split_at_checked(n) else {
-        return Err(Refusal::List);
-    };
-    kinds::content(*id, data)?;
-    Ok((Message { id: *id, data }, rest))
+    let (message, rest) = split_entry(list).ok_or(Refusal::List)?;
+    kinds::content(message.id, message.data)?;
+    Ok((message, rest))
 }
 
 // The entry at a place of a list; past the end there is none.
@@ -69,12 +77,12 @@ pub struct Messages<'a> {
 }
 
 impl<'a> Messages<'a> {
-    ghost use Rattle.batch.specs.Walks.{opened, bytes_left};
+    ghost use Rattle.batch.specs.Walks.{opened, bytes_left, Opens};
 
     // Those of a list, unless it is too long.
     pub fn new(list: &'a [u8]) -> Result<Messages<'a>, Refusal>
         ensures { (opened result ≡ list_of list.now)
-            × IfOk result (λ m. bytes_left m ≤ limit) }
+            × IfOk result (λ m. bytes_left m ≤ limit) × Opens list.now result }
     {
         if LIMIT < list.len() {
             return Err(Refusal::List);

@@ -11,7 +11,8 @@
 // All numbers are decimal.
 #![tactic(auto)]
 
-use batch::{Message, Messages};
+use answering::Regardless;
+use batch::{Header, Message, Messages};
 use refusals::Refusal;
 use std::io;
 
@@ -41,11 +42,21 @@ fn write_one(mode: u8, message: Message<'_>, sums: Sums) -> Sums {
     }
 }
 
-// Has the writer write each message of a list.
+// Has the writer write each message of a list that is the entry at its place too.
 fn write_all(mode: u8, list: &[u8]) -> Result<Sums, Refusal> {
     let mut sums = Sums::default();
+    let mut at: usize = 0;
     for message in Messages::new(list)? {
-        sums = write_one(mode, message?, sums);
+        let given = message?;
+        let length = given.data.len();
+        let here = Header {
+            id: given.id,
+            length,
+        };
+        if batch::entry_at(list, at)? == here {
+            sums = write_one(mode, given, sums);
+        }
+        at = at.saturating_add(length.saturating_add(3));
     }
     Ok(sums)
 }
@@ -86,6 +97,7 @@ fn show(rt: &impl Print, what: u8, mode: u8, s: &[u8]) -> io::Result<()> {
 }
 
 fn main(rt: HostRuntime) -> io::Result<()> {
+    let rt = Regardless(rt);
     let mut input = [0u8; 131072];
     let mut bytes = [0u8; 4096];
     answering::each_list(&rt, &mut input, &mut bytes, |what, mode, s| {

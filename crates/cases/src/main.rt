@@ -18,11 +18,11 @@
 // buffer up to four bytes past the room. Identifiers, c1, c2 and data are in hexadecimal.
 #![tactic(auto)]
 
-use answering::{print_answer, print_octets};
+use answering::{Regardless, print_answer, print_octets};
 use latest::Latest;
 use record::{Answer, Event, Head, Reader};
 use std::io;
-use takeover::{Head32, Reader32};
+use takeover::{Head32, Latest32, Reader32};
 
 fn number(e: Event) -> u8 {
     if e == Event::Message {
@@ -146,6 +146,22 @@ fn head32_of(s: &[u8]) -> Head32 {
     }
 }
 
+// Zeros beside a flag that is false, as a fresh record had them.
+fn latest32_of(l: Latest) -> Latest32 {
+    Latest32 {
+        has43: l.d43.is_some(),
+        d43: l.d43.unwrap_or([0; 6]),
+        has46: l.d46.is_some(),
+        d46: l.d46.unwrap_or([0; 10]),
+        has4a: l.d4a.is_some(),
+        d4a: l.d4a.unwrap_or([0; 33]),
+        has4b: l.d4b.is_some(),
+        d4b: l.d4b.unwrap_or([0; 42]),
+        haseb: l.deb.is_some(),
+        deb: l.deb.unwrap_or([0; 26]),
+    }
+}
+
 // One call in place.
 fn feed_in_place(rt: &impl Print, r: Reader, s: &[u8]) -> io::Result<()> {
     let mut bytes = r.bytes;
@@ -225,7 +241,7 @@ fn record32(rt: &impl Print, s: &[u8]) -> io::Result<()> {
     };
     let old = Reader32 {
         head: head32_of(parts.head),
-        latest: parts.latest,
+        latest: latest32_of(parts.latest),
         bytes: parts.bytes,
     };
     let taken = takeover::take_over(old);
@@ -260,6 +276,7 @@ fn case(rt: &impl Print, s: &[u8]) -> io::Result<()> {
 }
 
 fn main(rt: HostRuntime) -> io::Result<()> {
+    let rt = Regardless(rt);
     let mut input = [0u8; 262144];
     let mut bytes = [0u8; 4096];
     answering::each_call(&rt, &mut input, &mut bytes, |s| case(&rt, s))

@@ -1,7 +1,7 @@
 // What the kinds have in common whose data lie in one fixed layout: decoding, and the last step of every encoding.
 #![tactic(auto)]
 
-ghost use Rattle.std.specs.Prelude.{◌≡◌, ◌*◌, ◌<◌, ◌≤◌, ℕ, List, [], true, cond, ltb, length, get_or};
+ghost use Rattle.std.specs.Prelude.{◌≡◌, ◌*◌, ◌<◌, ◌≤◌, ℕ, List, [], Result, true, cond, ltb, length, get_or};
 ghost use Rattle.refusals.specs.Numbers.{numbered};
 ghost use Rattle.octets.specs.Delivery.{written};
 ghost use Rattle.octets.specs.Placing.{fits};
@@ -13,12 +13,14 @@ use std::array;
 
 // The fields of a kind of message, from its data and as its data.
 pub trait Fields: Copy {
-    // The identifier of the kind, the fields that data has, and the data of fields.
+    // The identifier of the kind, the fields that data has, the data of fields, and what decoding answers.
     ghost ID: { ℕ };
 
     ghost fields_of: { List ℕ → Self };
 
     ghost data_of: { Self → List ℕ };
+
+    ghost decoded_of: { List ℕ → Result Self ℕ };
 
     const ID: u8;
 
@@ -30,6 +32,9 @@ pub trait Fields: Copy {
     fn encode(self, buf: &mut [u8]) -> Result<usize, Refusal>
         ensures { (written result ≡ encoded_of ID (data_of self) buf.old)
             × (buf.new ≡ encoded_into ID (data_of self) buf.old) };
+
+    // The kind that answers is the one that the identifier names.
+    ghost decodes: { (d : List ℕ) → decoded_of d ≡ decoded_as ID fields_of d };
 }
 
 // The fields of a kind's data, where it is acceptable.
@@ -45,8 +50,8 @@ pub fn deliver(id: u8, body: &[u8], buf: &mut [u8]) -> Result<usize, Refusal>
     ensures { (written result ≡ encoded_of id body.now buf.old)
         × (buf.new ≡ encoded_into id body.now buf.old) }
 {
-    kinds::content(id, body)?;
-    octets::deliver(body, buf)
+    let judged = kinds::content(id, body);
+    octets::deliver(judged, body, buf)
 }
 
 // An entry of a kind whose data hold entries of one width.

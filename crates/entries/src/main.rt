@@ -14,7 +14,7 @@
 // refused, the refusal, the word and the count of the 168 bytes written. Both end with the buffer.
 #![tactic(auto)]
 
-use answering::{print_octets, print_written};
+use answering::{Regardless, print_octets, print_written};
 use encoding::Fields;
 use fields_47::Uses;
 use fields_52::Visible;
@@ -234,6 +234,7 @@ fn call(rt: &impl Print, s: &[u8]) -> io::Result<()> {
 }
 
 fn main(rt: HostRuntime) -> io::Result<()> {
+    let rt = Regardless(rt);
     let mut input = [0u8; 65536];
     let mut bytes = [0u8; 1024];
     answering::each_call(&rt, &mut input, &mut bytes, |s| call(&rt, s))

@@ -1,9 +1,9 @@
 // 20h, a satellite, as fields and as data.
 #![tactic(auto)]
 
-ghost use Rattle.std.specs.Prelude.{◌≡◌};
+ghost use Rattle.std.specs.Prelude.{◌≡◌, refl};
 ghost use Rattle.rows.specs.Layout.{words};
-ghost use Rattle.fields_20.specs.Fields.{fields_of, rows_of, data_of};
+ghost use Rattle.fields_20.specs.Fields.{fields_of, rows_of, data_of, decoded_of};
 
 use encoding::Fields;
 use refusals::Refusal;
@@ -30,6 +30,8 @@ impl Fields for Satellite {
 
     ghost data_of = { data_of };
 
+    ghost decoded_of = { decoded_of };
+
     const ID: u8 = 0x20;
 
     fn read(body: &[u8]) -> Satellite {
@@ -42,4 +44,6 @@ impl Fields for Satellite {
     fn encode(self, buf: &mut [u8]) -> Result<usize, Refusal> {
         rows::encode(Satellite::ID, &words_of(self), &WIDTHS, buf)
     }
+
+    ghost decodes = { λ d. refl };
 }

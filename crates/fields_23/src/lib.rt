@@ -1,9 +1,9 @@
 // 23h, a zone or none, as fields and as data.
 #![tactic(auto)]
 
-ghost use Rattle.std.specs.Prelude.{◌≡◌};
+ghost use Rattle.std.specs.Prelude.{◌≡◌, refl};
 ghost use Rattle.rows.specs.Layout.{words};
-ghost use Rattle.fields_23.specs.Fields.{fields_of, all_rows, data_of};
+ghost use Rattle.fields_23.specs.Fields.{fields_of, all_rows, data_of, decoded_of};
 
 use encoding::Fields;
 use refusals::Refusal;
@@ -36,6 +36,8 @@ impl Fields for Zone {
 
     ghost data_of = { data_of };
 
+    ghost decoded_of = { decoded_of };
+
     const ID: u8 = 0x23;
 
     fn read(body: &[u8]) -> Zone {
@@ -50,4 +52,6 @@ impl Fields for Zone {
         let count = self.count.min(3);
         rows::encode(Zone::ID, &words_of(self), &WIDTHS[..count], buf)
     }
+
+    ghost decodes = { λ d. refl };
 }

@@ -1,9 +1,9 @@
 // 43h, a result byte, as fields and as data.
 #![tactic(auto)]
 
-ghost use Rattle.std.specs.Prelude.{◌≡◌};
+ghost use Rattle.std.specs.Prelude.{◌≡◌, refl};
 ghost use Rattle.rows.specs.Layout.{words};
-ghost use Rattle.fields_43.specs.Fields.{result_of, result_byte, fields_of, rows_of, data_of};
+ghost use Rattle.fields_43.specs.Fields.{result_of, result_byte, fields_of, rows_of, data_of, decoded_of};
 
 use encoding::Fields;
 use refusals::Refusal;
@@ -55,6 +55,8 @@ impl Fields for Outcome {
 
     ghost data_of = { data_of };
 
+    ghost decoded_of = { decoded_of };
+
     const ID: u8 = 0x43;
 
     fn read(body: &[u8]) -> Outcome {
@@ -64,4 +66,6 @@ impl Fields for Outcome {
     fn encode(self, buf: &mut [u8]) -> Result<usize, Refusal> {
         rows::encode(Outcome::ID, &words_of(self), &WIDTHS, buf)
     }
+
+    ghost decodes = { λ d. refl };
 }

@@ -1,9 +1,9 @@
 // 46h, time, date and zone, as fields and as data.
 #![tactic(auto)]
 
-ghost use Rattle.std.specs.Prelude.{◌≡◌};
+ghost use Rattle.std.specs.Prelude.{◌≡◌, refl};
 ghost use Rattle.rows.specs.Layout.{words};
-ghost use Rattle.fields_46.specs.Fields.{fields_of, rows_of, data_of};
+ghost use Rattle.fields_46.specs.Fields.{fields_of, rows_of, data_of, decoded_of};
 
 use encoding::Fields;
 use refusals::Refusal;
@@ -41,6 +41,8 @@ impl Fields for Time {
 
     ghost data_of = { data_of };
 
+    ghost decoded_of = { decoded_of };
+
     const ID: u8 = 0x46;
 
     fn read(body: &[u8]) -> Time {
@@ -57,4 +59,6 @@ impl Fields for Time {
     fn encode(self, buf: &mut [u8]) -> Result<usize, Refusal> {
         rows::encode(Time::ID, &words_of(self), &WIDTHS, buf)
     }
+
+    ghost decodes = { λ d. refl };
 }

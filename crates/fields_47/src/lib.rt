@@ -1,10 +1,10 @@
 // 47h, the use of each satellite, as fields and as data.
 #![tactic(auto)]
 
-ghost use Rattle.std.specs.Prelude.{◌≡◌, ◌<◌};
+ghost use Rattle.std.specs.Prelude.{◌≡◌, ◌<◌, refl};
 ghost use Rattle.std.proofs.Common.{rules};
 ghost use Rattle.encoding.specs.Entries.{entry_slice};
-ghost use Rattle.fields_47.specs.Fields.{entry_of, entry_data, blank, uses, fields_of, data_of};
+ghost use Rattle.fields_47.specs.Fields.{entry_of, entry_data, blank, uses, fields_of, data_of, decoded_of};
 
 use encoding::{Entry, Fields};
 use refusals::Refusal;
@@ -77,6 +77,8 @@ impl Fields for Uses {
 
     ghost data_of = { data_of };
 
+    ghost decoded_of = { decoded_of };
+
     const ID: u8 = 0x47;
 
     fn read(body: &[u8]) -> Uses {
@@ -90,4 +92,6 @@ impl Fields for Uses {
         encoding::lay_out(&self.triples, &mut all);
         encoding::deliver(Uses::ID, &all, buf)
     }
+
+    ghost decodes = { λ d. refl };
 }

@@ -2,9 +2,9 @@
 // FP fields are kept as their bits.
 #![tactic(auto)]
 
-ghost use Rattle.std.specs.Prelude.{◌≡◌};
+ghost use Rattle.std.specs.Prelude.{◌≡◌, refl};
 ghost use Rattle.rows.specs.Layout.{words};
-ghost use Rattle.fields_49.specs.Fields.{fields_of_gps, rows_of_gps, fields_of_glonass, rows_of_glonass, fields_of, data_of};
+ghost use Rattle.fields_49.specs.Fields.{fields_of_gps, rows_of_gps, fields_of_glonass, rows_of_glonass, fields_of, data_of, decoded_of};
 
 use encoding::Fields;
 use refusals::Refusal;
@@ -186,6 +186,8 @@ impl Fields for Ephemeris {
 
     ghost data_of = { data_of };
 
+    ghost decoded_of = { decoded_of };
+
     const ID: u8 = 0x49;
 
     fn read(body: &[u8]) -> Ephemeris {
@@ -207,4 +209,6 @@ impl Fields for Ephemeris {
             ),
         }
     }
+
+    ghost decodes = { λ d. refl };
 }

@@ -2,9 +2,9 @@
 // FP fields are kept as their bits.
 #![tactic(auto)]
 
-ghost use Rattle.std.specs.Prelude.{◌≡◌};
+ghost use Rattle.std.specs.Prelude.{◌≡◌, refl};
 ghost use Rattle.rows.specs.Layout.{words};
-ghost use Rattle.fields_4a.specs.Fields.{fields_of, rows_of, data_of};
+ghost use Rattle.fields_4a.specs.Fields.{fields_of, rows_of, data_of, decoded_of};
 
 use encoding::Fields;
 use refusals::Refusal;
@@ -48,6 +48,8 @@ impl Fields for Ionosphere {
 
     ghost data_of = { data_of };
 
+    ghost decoded_of = { decoded_of };
+
     const ID: u8 = 0x4A;
 
     fn read(body: &[u8]) -> Ionosphere {
@@ -67,4 +69,6 @@ impl Fields for Ionosphere {
     fn encode(self, buf: &mut [u8]) -> Result<usize, Refusal> {
         rows::encode(Ionosphere::ID, &words_of(self), &WIDTHS, buf)
     }
+
+    ghost decodes = { λ d. refl };
 }

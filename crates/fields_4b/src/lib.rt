@@ -2,9 +2,9 @@
 // FP fields are kept as their bits.
 #![tactic(auto)]
 
-ghost use Rattle.std.specs.Prelude.{◌≡◌};
+ghost use Rattle.std.specs.Prelude.{◌≡◌, refl};
 ghost use Rattle.rows.specs.Layout.{words};
-ghost use Rattle.fields_4b.specs.Fields.{fields_of, rows_of, data_of};
+ghost use Rattle.fields_4b.specs.Fields.{fields_of, rows_of, data_of, decoded_of};
 
 use encoding::Fields;
 use refusals::Refusal;
@@ -54,6 +54,8 @@ impl Fields for Scales {
 
     ghost data_of = { data_of };
 
+    ghost decoded_of = { decoded_of };
+
     const ID: u8 = 0x4B;
 
     fn read(body: &[u8]) -> Scales {
@@ -76,4 +78,6 @@ impl Fields for Scales {
     fn encode(self, buf: &mut [u8]) -> Result<usize, Refusal> {
         rows::encode(Scales::ID, &words_of(self), &WIDTHS, buf)
     }
+
+    ghost decodes = { λ d. refl };
 }

@@ -1,9 +1,9 @@
 // 52h, the visible satellites, as fields and as data.
 #![tactic(auto)]
 
-ghost use Rattle.std.specs.Prelude.{◌≡◌};
+ghost use Rattle.std.specs.Prelude.{◌≡◌, refl};
 ghost use Rattle.std.proofs.Common.{rules};
-ghost use Rattle.fields_52.specs.Fields.{entry_of, entry_data, blank, visibles, read_of, data_of};
+ghost use Rattle.fields_52.specs.Fields.{entry_of, entry_data, blank, visibles, read_of, data_of, decoded_of};
 
 use encoding::Fields;
 use refusals::Refusal;
@@ -81,6 +81,8 @@ impl Fields for Visible {
 
     ghost data_of = { data_of };
 
+    ghost decoded_of = { decoded_of };
+
     const ID: u8 = 0x52;
 
     fn read(body: &[u8]) -> Visible {
@@ -101,4 +103,6 @@ impl Fields for Visible {
         encoding::lay_out(&self.entries[..self.n], &mut all);
         encoding::deliver(Visible::ID, &all[..7 * self.n], buf)
     }
+
+    ghost decodes = { λ d. refl };
 }

@@ -54,8 +54,8 @@ pub fn encode_empty(id: u8, buf: &mut [u8]) -> Result<usize, Refusal>
     ensures { (written result ≡ written_of (empty_refusal id) [] buf.old)
         × (buf.new ≡ filled_of (empty_refusal id) [] buf.old) }
 {
-    judge(empty_kind(id), id, &[])?;
-    octets::deliver(&[], buf)
+    let judged = judge(empty_kind(id), id, &[]);
+    octets::deliver(judged, &[], buf)
 }
 
 // The fields of a kind of one byte or none. Without the byte the value is 0.

@@ -153,5 +153,5 @@ pub fn encode_f5(f: Measurements, buf: &mut [u8]) -> Result<usize, Refusal>
         return Err(Refusal::Length);
     }
     let all = all_data(f.header, &f.channels, f.n);
-    octets::deliver(&all[..27 + 30 * f.n], buf)
+    octets::deliver(Ok(()), &all[..27 + 30 * f.n], buf)
 }

@@ -107,5 +107,5 @@ pub fn write(word: u64, buf: &mut [u8]) -> Result<usize, Refusal>
         return Err(Refusal::NoSatellite);
     }
     let all = data_of(word);
-    octets::deliver(&all, buf)
+    octets::deliver(Ok(()), &all, buf)
 }

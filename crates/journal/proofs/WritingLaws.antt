@@ -1,5 +1,6 @@
 -- Laws of writing a list: which refusal comes first, one turn of the pass that measures, and one of the pass that writes.
-use Rattle.std.proofs.Common.{◌≡◌, refl, sym, ap, ◌∙◌, subst, ℕ, ◌+◌, ◌≤◌, ◌<◌, List, [], ◌++◌, length, length-append, arith, Some, Ok}
+use Rattle.std.proofs.Common.{◌≡◌, refl, sym, ap, ◌∙◌, subst, Bool, true, false, eqb, ltb, ℕ, ◌+◌, ◌≤◌, ◌<◌, List, [], ◌++◌, length, length-append, arith, Some, None, Ok}
+use borrow.Author.Tests.{ltb-true, ltb-false, eqb-true, eqb-false}
 use native.Mathlib.Nat.{zero-add, add-zero, add_assoc}
 use Rattle.octets.specs.Placing.{placed}
 use Rattle.octets.specs.Delivery.{accepted}
@@ -10,10 +11,12 @@ use Rattle.octets.proofs.DeliveryLaws.{refuses, short, writes}
 use Rattle.kinds.proofs.ContentLaws.{content_length}
 use Rattle.batch.specs.declared.Message.{Message}
 use Rattle.batch.specs.declared.Messages.{Messages}
-use Rattle.batch.specs.Entries.{Entry, Contents, ahead, list_of}
+use Rattle.batch.specs.Entries.{Entry, Header, header_of, Contents, ahead, contents_of, limit, list_of}
 use Rattle.batch.specs.Entries.Contents.{entries, refused}
-use Rattle.batch.specs.Walks.{left, entry as taken, Gives}
+use Rattle.batch.specs.Walks.{left, entry as taken, Splits, Gives}
+use Rattle.batch.proofs.ContentsLaws.{at_end, at_refusal, list_long, list_short}
 use Rattle.batch.proofs.LayoutLaws.{Holds, contents_holds}
+use Rattle.batch.proofs.WalkLaws.{split_none}
 use Rattle.journal.specs.Records.{record_of, records_of}
 use Rattle.journal.specs.Calls.{refusal_in, records_in, measured, journal_written, journal_filled}
 use Rattle.journal.proofs.RecordLaws.{length_record}
@@ -51,12 +54,38 @@ abbrev pub Entire : Contents → Type 0
 Entire (entries xs) = Unit {0}
 Entire (refused v) = ⊥
 
-pub entire : (m : Messages) → refusal_in (left m) ≡ 0 → Entire (left m)
-entire m z = go (left m) (contents_holds m.rest.now) z
+pub as_contents : (s : List ℕ) → refusal_in (list_of s) ≡ 0 → list_of s ≡ contents_of s
+as_contents s z = by (ltb limit (length s)) refl
   where
-    go : (c : Contents) → Holds m.rest.now c → refusal_in c ≡ 0 → Entire c
+    by : (t : Bool) → ltb limit (length s) ≡ t → list_of s ≡ contents_of s
+    by true p = let e = ap refusal_in (list_long s (ltb-true limit (length s) p)) in absurd (omega (arith, e, z))
+    by false p = list_short s (ltb-false limit (length s) p)
+
+pub entire : (s : List ℕ) → refusal_in (contents_of s) ≡ 0 → Entire (contents_of s)
+entire s z = go (contents_of s) (contents_holds s) z
+  where
+    go : (c : Contents) → Holds s c → refusal_in c ≡ 0 → Entire c
     go (entries xs) h e = tt
     go (refused v) h e = h e
+
+-- its first entry, where a byte is left, is not refused
+pub unrefused : (s : List ℕ) → Entire (contents_of s) → 0 < length s → (header_of s).refusal ≡ 0
+unrefused s c l = by (eqb (header_of s).refusal 0) refl
+  where
+    by : (t : Bool) → eqb (header_of s).refusal 0 ≡ t → (header_of s).refusal ≡ 0
+    by true p = eqb-true (header_of s).refusal 0 p
+    by false p = absurd (subst Entire (at_refusal s l (eqb-false (header_of s).refusal 0 p)) c)
+
+-- and where it is not whole, no byte is left
+pub at_last : (s : List ℕ) → Entire (contents_of s) → Splits s None → contents_of s ≡ entries []
+at_last s c p = by (eqb (length s) 0) refl
+  where
+    by : (t : Bool) → eqb (length s) 0 ≡ t → contents_of s ≡ entries []
+    by true q = at_end s (eqb-true (length s) 0 q)
+    by false q =
+        let z = unrefused s c (omega (arith, eqb-false (length s) 0 q)) in
+        let e = ap (λ (h : Header). h.refusal) (split_none s p) in
+        absurd (omega (arith, z, e))
 
 entire_ahead : (x : Entry) (c : Contents) → Entire (ahead x c) → Entire c
 entire_ahead x (entries xs) e = tt

@@ -56,10 +56,6 @@ judged v id d = cond (eqb v 0) (given id d) (nothing v)
 abbrev pub message : Given → Entry
 message e = record { refusal = 0; id = e.id; length = e.length; taken = e.taken; bytes = e.bytes }
 
-abbrev pub answer : Result Given Refusal → Entry
-answer (Ok e) = message e
-answer (Err r) = nothing (number r)
-
 abbrev pub entry : Result (Option Given) Refusal → Entry
 entry (Ok None) = nothing 0
 entry (Ok (Some e)) = message e

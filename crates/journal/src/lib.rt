@@ -1,13 +1,14 @@
 // The journal of given messages: records one after the other in a buffer, the repeated entries of a message by column.
 #![tactic(auto)]
 
-ghost use Rattle.std.specs.Prelude.{◌≡◌, ◌+◌, ◌≤◌, ◌<◌, eqb, length, take};
+ghost use Rattle.std.specs.Prelude.{◌≡◌, false, ◌+◌, ◌≤◌, ◌<◌, eqb, length, take};
 ghost use Rattle.octets.specs.Placing.{fits, placed};
 ghost use Rattle.octets.specs.Delivery.{written};
 ghost use Rattle.kinds.specs.Kinds.{content};
+ghost use Rattle.batch.specs.Entries.{list_of};
 ghost use Rattle.batch.specs.Walks.{left, entry as taken};
 ghost use Rattle.journal.specs.Records.{layout_of, layout, stored, restored, head_bytes, record_of};
-ghost use Rattle.journal.specs.Calls.{refusal_in, records_in, measured, journal_written, journal_filled, judged, answer, entry, ended, marked, read_of};
+ghost use Rattle.journal.specs.Calls.{refusal_in, records_in, measured, journal_written, journal_filled, judged, entry, ended, marked, read_of};
 
 use batch::{Message, Messages};
 use refusals::Refusal;
@@ -116,18 +117,17 @@ fn measure(messages: Messages<'_>) -> Result<usize, Refusal>
     Ok(length)
 }
 
-// Puts the records of messages, none of which is refused, at the buffer's start.
-fn put_records(messages: Messages<'_>, buf: &mut [u8])
-    requires { (refusal_in (left messages) ≡ 0) × (length (records_in (left messages)) ≤ length buf.old) }
-    ensures { buf.new ≡ placed buf.old 0 (records_in (left messages.entry)) }
+// Puts the records of a list that is not refused at the buffer's start. Its entries have been judged, and are taken as they stand.
+fn put_records(list: &[u8], buf: &mut [u8])
+    requires { (refusal_in (list_of list.now) ≡ 0) × (length (records_in (list_of list.now)) ≤ length buf.old) }
+    ensures { buf.new ≡ placed buf.old 0 (records_in (list_of list.now)) }
 {
+    let mut rest = list;
     let mut to: usize = 0;
-    for message in messages {
-        let Ok(given) = message else {
-            return;
-        };
-        put_record(given, buf, to);
-        to += 5 + given.data.len();
+    while let Some((message, after)) = batch::split_entry(rest) {
+        put_record(message, buf, to);
+        to += 5 + message.data.len();
+        rest = after;
     }
 }
 
@@ -141,13 +141,13 @@ pub fn write(list: &[u8], buf: &mut [u8]) -> Result<usize, Refusal>
     if buf.len() < length {
         return Err(Refusal::Buffer);
     }
-    put_records(messages, buf);
+    put_records(list, buf);
     Ok(length)
 }
 
-// The message of a record, by its identifier and its data as it is stored.
-fn restore(id: u8, body: &[u8]) -> Result<Entry, Refusal>
-    ensures { answer result ≡ judged (content id (restored id body.now)) id (restored id body.now) }
+// What reading answers of a record, by its identifier and its data as it is stored.
+fn restore(id: u8, body: &[u8]) -> Result<Option<Entry>, Refusal>
+    ensures { (entry result ≡ judged (content id (restored id body.now)) id (restored id body.now)) × (ended result ≡ false) }
 {
     let n = body.len();
     let mut bytes = [0u8; CAPACITY];
@@ -155,12 +155,12 @@ fn restore(id: u8, body: &[u8]) -> Result<Entry, Refusal>
     // Data that is too long for the array is judged as it is, since no kind has that length.
     let data = if in_order { &bytes[..n] } else { body };
     kinds::content(id, data)?;
-    Ok(Entry {
+    Ok(Some(Entry {
         id,
         length: n,
         taken: 5 + n,
         bytes,
-    })
+    }))
 }
 
 fn is_marked(bytes: &[u8]) -> bool
@@ -188,5 +188,5 @@ pub fn read(bytes: &[u8]) -> Result<Option<Entry>, Refusal>
         return Err(Refusal::Short);
     }
     let end = 5 + length;
-    restore(bytes[2], &bytes[5..end]).map(Some)
+    restore(bytes[2], &bytes[5..end])
 }

@@ -2,13 +2,14 @@
 use mathlib.Core.Path.{◌≡◌, refl, ap, ◌∙◌}
 use mathlib.Core.Bool.{Bool, true, false, cond}
 use mathlib.Core.List.{List, [], ◌∷◌, ◌++◌}
-use Prim.Native.Nat.{ℕ, zero, suc, ◌/◌, ◌%◌, ◌^◌, ◌≤◌, ◌<◌}
+use Prim.Native.Nat.{ℕ, zero, suc, ◌+◌, ◌-◌, ◌*◌, ◌/◌, ◌%◌, ◌^◌, ◌≤◌, ◌<◌}
+use native.Mathlib.Nat.{pow-suc}
 use native.Mathlib.Omega.{arith}
-use borrow.Author.Tests.{ltb-true, ltb-false}
+use borrow.Author.Tests.{lt-ltb, le-ltb, ltb-true, ltb-false}
 use lib.Dec.{ltb}
-use lib.ListN.{length}
+use lib.ListN.{length, length-append}
 use Rattle.std.specs.Fmt.{decimal as library_decimal}
-use Rattle.std.proofs.lemmas.Fmt.{decimal_digit, decimal_step_wide, length-decimal-le_wide}
+use Rattle.std.proofs.lemmas.Fmt.{decimal_digit, decimal_step_wide}
 use Rattle.listing.specs.Text.{space, digit, decimal_in, decimal, decimals, count_digits}
 
 -- by as many divisions as are enough
@@ -28,13 +29,49 @@ pub library_decimal_is : (n : ℕ) → n < 10 ^ 64 → library_decimal n ≡ dec
 unfolding decimal
 library_decimal_is n b = library_decimal_in n n (omega arith) b
 
+-- as many divisions as the number are enough, and more change nothing
+enough : (j k n : ℕ) → n ≤ j → n ≤ k → decimal_in j n ≡ decimal_in k n
+unfolding decimal_in
+enough zero zero n p q = refl
+enough zero (suc k) n p q = rw (lt-ltb n 10 (omega arith))
+enough (suc j) zero n p q = rw (lt-ltb n 10 (omega arith))
+enough (suc j) (suc k) n p q = by (ltb n 10) refl (λ h. enough j k (n / 10) (omega arith) (omega arith))
+  where
+    by : (t : Bool) → ltb n 10 ≡ t → (10 ≤ n → decimal_in j (n / 10) ≡ decimal_in k (n / 10))
+        → cond t (digit n ∷ []) (decimal_in j (n / 10) ++ (digit (n % 10) ∷ []))
+        ≡ cond t (digit n ∷ []) (decimal_in k (n / 10) ++ (digit (n % 10) ∷ []))
+    by true e f = refl
+    by false e f = ap (λ (l : List ℕ). l ++ (digit (n % 10) ∷ [])) (f (ltb-false n 10 e))
+
+-- one digit, and more
+pub decimal_small : (n : ℕ) → n < 10 → decimal n ≡ digit n ∷ []
+unfolding decimal decimal_in
+decimal_small zero h = refl
+decimal_small (suc n) h = rw (lt-ltb (suc n) 10 h)
+
+pub decimal_large : (n : ℕ) → 10 ≤ n → decimal n ≡ decimal (n / 10) ++ (digit (n % 10) ∷ [])
+unfolding decimal decimal_in
+decimal_large zero h = absurd (omega arith)
+decimal_large (suc n) h =
+    rw (le-ltb (suc n) 10 h) (ap (λ (l : List ℕ). l ++ (digit (suc n % 10) ∷ [])) (enough n (suc n / 10) (suc n / 10) (omega arith) (omega arith)))
+
+large_length : (n : ℕ) → 10 ≤ n → length (decimal n) ≡ length (decimal (n / 10)) + 1
+large_length n h = rw (decimal_large n h, length-append)
+
 -- a number below ten to the k has at most k digits
-pub decimal_length : (k n : ℕ) → 0 < k → n < 10 ^ k → n < 10 ^ 64 → length (decimal n) ≤ k
-decimal_length k n some h b = omega (arith, length-decimal-le_wide k n some h b, ap length (library_decimal_is n b))
+pub decimal_length : (k n : ℕ) → n < 10 ^ suc k → length (decimal n) ≤ suc k
+decimal_length zero n h = rw (decimal_small n h) (omega arith)
+decimal_length (suc k) n h =
+    let p : n < 10 ^ suc k * 10 = rw (pow-suc 10 (suc k)) at h in
+    by (ltb n 10) refl (decimal_length k (n / 10) (omega arith))
+  where
+    by : (t : Bool) → ltb n 10 ≡ t → length (decimal (n / 10)) ≤ suc k → length (decimal n) ≤ suc (suc k)
+    by true e l = rw (decimal_small n (ltb-true n 10 e)) (omega arith)
+    by false e l = omega (arith, large_length n (ltb-false n 10 e))
 
 -- of a count
 pub decimal_short : (n : ℕ) → n < 10 ^ count_digits → length (decimal n) ≤ count_digits
-decimal_short n h = decimal_length count_digits n (omega arith) h (omega arith)
+decimal_short n h = decimal_length (count_digits - 1) n h
 
 -- none, and one before the others
 pub decimals_nil : decimals [] ≡ []

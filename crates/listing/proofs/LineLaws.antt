@@ -80,7 +80,7 @@ module _ (offset id number closed : ℕ) where
         decimal_short offset ho,
         ap length (decimals_cons number (closed ∷ [])),
         length-append (space ∷ decimal number) (decimals (closed ∷ [])),
-        decimal_length 3 number (omega arith) (omega arith) (omega arith),
+        decimal_length 2 number (omega arith),
         decimals_more closed [] hc,
         ap length decimals_nil,
       )

@@ -128,7 +128,7 @@ pub fn event_line(
     }
     let mut line = [0u8; LONGEST_EVENT];
     let n = put_event(offset, id, number, closed, &mut line);
-    octets::deliver(&line[..n], buf)
+    octets::deliver(Ok(()), &line[..n], buf)
 }
 
 // Writes the line of the five counts.
@@ -142,7 +142,7 @@ pub fn total_line(t: Totals, buf: &mut [u8]) -> Result<usize, Refusal>
     }
     let mut line = [0u8; LONGEST_TOTAL];
     let n = put_total(t, &mut line);
-    octets::deliver(&line[..n], buf)
+    octets::deliver(Ok(()), &line[..n], buf)
 }
 
 // Writes the line of a reader's five counts.

@@ -15,7 +15,7 @@
 // fills a buffer, that follows, of Z before the call, up to four bytes past the room.
 #![tactic(auto)]
 
-use answering::print_answer;
+use answering::{Regardless, print_answer};
 use listing::Totals;
 use record::{Count, Head, Reader};
 use refusals::Refusal;
@@ -148,6 +148,7 @@ fn call(rt: &impl Print, s: &[u8]) -> io::Result<()> {
 }
 
 fn main(rt: HostRuntime) -> io::Result<()> {
+    let rt = Regardless(rt);
     let mut input = [0u8; 65536];
     let mut bytes = [0u8; 4096];
     answering::each_call(&rt, &mut input, &mut bytes, |s| call(&rt, s))

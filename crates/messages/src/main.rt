@@ -15,7 +15,7 @@
 ghost use Rattle.std.specs.Prelude.{not, T};
 ghost use Rattle.std.specs.Float.Ieee.{is_nan};
 
-use answering::{print_numbers, print_octets, print_written};
+use answering::{Regardless, print_numbers, print_octets, print_written};
 use dates::Date;
 use encoding::Fields;
 use fields_4a::Ionosphere;
@@ -389,6 +389,7 @@ fn call(rt: &impl Print, s: &[u8]) -> io::Result<()> {
 }
 
 fn main(rt: HostRuntime) -> io::Result<()> {
+    let rt = Regardless(rt);
     let mut input = [0u8; 131072];
     let mut bytes = [0u8; 256];
     answering::each_call(&rt, &mut input, &mut bytes, |s| call(&rt, s))

@@ -2,6 +2,7 @@
 #![tactic(auto)]
 
 ghost use Rattle.std.specs.Prelude.{◌≡◌, ◌+◌, leb, length};
+ghost use Rattle.refusals.specs.Numbers.{code};
 ghost use Rattle.octets.specs.Bytes.{byte};
 ghost use Rattle.octets.specs.Placing.{fits, placed};
 ghost use Rattle.octets.specs.Delivery.{written, written_of, filled_of};
@@ -37,11 +38,12 @@ pub fn put(src: &[u8], buf: &mut [u8], at: usize) -> bool
     true
 }
 
-// Copies the text to the buffer's start, and answers its length; 13 where the buffer is too short.
-pub fn deliver(text: &[u8], buf: &mut [u8]) -> Result<usize, Refusal>
-    ensures { (written result ≡ written_of 0 text.now buf.old)
-        × (buf.new ≡ filled_of 0 text.now buf.old) }
+// Refused as judged before; else 13 where the buffer is too short; else the text is copied to the buffer's start, and its length answered.
+pub fn deliver(judged: Result<(), Refusal>, text: &[u8], buf: &mut [u8]) -> Result<usize, Refusal>
+    ensures { (written result ≡ written_of (code judged) text.now buf.old)
+        × (buf.new ≡ filled_of (code judged) text.now buf.old) }
 {
+    judged?;
     let n = text.len();
     if buf.len() < n {
         return Err(Refusal::Buffer);

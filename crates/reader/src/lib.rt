@@ -8,7 +8,7 @@ ghost use Rattle.refusals.specs.Numbers.{code};
 ghost use Rattle.line.specs.Frame.{mode_of, judge as judgeOf};
 ghost use Rattle.line.specs.Record.{limit, Kept};
 ghost use Rattle.record.specs.Posts.{InPlacePost};
-ghost use Rattle.reader.specs.Moving.{moving_of, Skips, Copied, Fills, Fits, Taken, Held, Sound, Moves, Goes, Ran, Busy, stayed, went, passed, opened, shut as shutOf, start_of, turned, base_of};
+ghost use Rattle.reader.specs.Moving.{moving_of, Skips, NoDle, Copied, Fills, Fits, Taken, Held, Sound, Moves, Goes, Ran, Busy, stayed, went, passed, opened, shut as shutOf, start_of, turned, base_of};
 ghost use Rattle.reader.specs.Closing.{Finishes, head_with, resumed, reopened_by, dismissed, concluded, refused_by, given_by};
 
 use checksum::SumBytes;
@@ -96,6 +96,16 @@ fn skip(s: &[u8], from: usize, n: usize) -> usize
     }
 }
 
+// Stores four bytes, each by itself: a copy of slices would first ask whether they overlap.
+fn store_four(d: &mut [u8; Reader::CAPACITY], to: usize, s: &[u8], at: usize)
+    requires { (at + 4 ≤ length s.now) × (to + 4 ≤ 1024) × (length d.old ≡ 1024) }
+    ensures { (a : List ℕ) (len from : ℕ) → to ≡ len + (at - from) → NoDle s.now at (at + 4) → Copied a d.old len s.now from at → Copied a d.new len s.now from (at + 4) }
+{
+    for i in 0..4 {
+        d[to + i] = s[at + i];
+    }
+}
+
 // Stores bytes four at a time, as long as none of the four is DLE.
 fn fill_fours(d: &mut [u8; Reader::CAPACITY], len: usize, s: &[u8], from: usize) -> usize
     requires { (from ≤ length s.now) × (len + (length s.now - from) ≤ 1024) × (length d.old ≡ 1024) }
@@ -104,7 +114,7 @@ fn fill_fours(d: &mut [u8; Reader::CAPACITY], len: usize, s: &[u8], from: usize)
     let mut at = from;
     while stuffing::four_plain(s, at) {
         let to = len + (at - from);
-        d[to..to + 4].copy_from_slice(&s[at..at + 4]);
+        store_four(d, to, s, at);
         at += 4;
     }
     at

@@ -11,7 +11,11 @@ pub const DLE: u8 = 0x10;
 pub fn count_dle(s: &[u8]) -> usize
     ensures { result ≡ dles s.now }
 {
-    s.iter().filter(|b| **b == DLE).count()
+    let mut n: usize = 0;
+    for b in s {
+        n += usize::from(*b == DLE);
+    }
+    n
 }
 
 // Whether four bytes from `at` on are there, and none of them is 10h: such bytes go on as they are, four at a time.

@@ -1,3 +1,4 @@
+pub mod Kept
 pub mod Resuming
 pub mod Account
 pub mod Vectors

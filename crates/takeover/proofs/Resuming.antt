@@ -1,12 +1,13 @@
 -- What taking over returns, by the answer of questions 1 and 2; that a record goes on, and that what stands in for one is refused.
 use mathlib.Core.List.{List}
-use mathlib.Core.Path.{◌≡◌, refl, ap, subst}
+use mathlib.Core.Path.{◌≡◌, refl, sym, ap, ◌∙◌, subst}
 use Prim.Native.Nat.{ℕ, ◌≤◌}
 use native.Mathlib.Omega.{arith}
 use lib.ListN.{length}
-use Rattle.std.specs.Prelude.{Option}
+use Rattle.std.specs.Prelude.{Option, Some, None}
 use Rattle.refusals.specs.declared.Refusal.{Refusal}
 use Rattle.refusals.specs.Numbers.{why}
+use Rattle.refusals.proofs.NumberLaws.{positive}
 use Rattle.line.specs.Table.Event.{refusal}
 use Rattle.line.specs.Record.{Rec, Possible, Asked, stepped, event_of}
 use Rattle.record.specs.View.{view, parts_of, shown}
@@ -19,8 +20,15 @@ use Rattle.questions.specs.Question.{Questions}
 use Rattle.takeover.specs.declared.Reader32.{Reader32}
 use Rattle.takeover.specs.declared.TakenOver.{TakenOver}
 use Rattle.takeover.specs.Takeover.{limit32, view32, same_parts, no_record, TakeOverPost}
+use Rattle.takeover.proofs.Kept.{same_view}
 
 module _ (o : Reader32) (f : Option Refusal) (whole : length o.bytes ≡ 1024) (q : Questions (same_parts o) 0 (why f)) where
+  here : Possible (view (same_parts o)) → Possible (view32 o)
+  here = subst Possible (same_view o)
+
+  there : Possible (view32 o) → Possible (view (same_parts o))
+  there = subst Possible (sym (same_view o))
+
   -- refused: there is no record
   pub refuses : (why f ≡ 0 → ⊥) → (r : Reader) → r ≡ no_record → TakeOverPost o (record { refusal = f; reader = r })
   refuses n r e =
@@ -28,9 +36,9 @@ module _ (o : Reader32) (f : Option Refusal) (whole : length o.bytes ≡ 1024) (
         asked =
             record {
               one = λ z. (q.one z, e);
-              two = λ z b. (q.two z (λ p. b p.possible), e);
+              two = λ z b. (q.two z (λ p. b (here p.possible)), e);
               three = λ z p b. absurd b;
-              rest = λ z p b. absurd (n (q.rest z (record { whole = whole; possible = p }) (λ w. absurd (omega arith))));
+              rest = λ z p b. absurd (n (q.rest z (record { whole = whole; possible = there p }) (λ w. absurd (omega arith))));
             };
         whole = λ z. absurd (n z);
       }
@@ -42,12 +50,28 @@ module _ (o : Reader32) (f : Option Refusal) (whole : length o.bytes ≡ 1024) (
         asked =
             record {
               one = λ l. absurd (let w : ⊥ = omega (arith, q.mode z) in w);
-              two = λ l b. absurd (b (q.valid z).possible);
+              two = λ l b. absurd (b (here (q.valid z).possible));
               three = λ l p b. absurd b;
-              rest = λ l p b. (z, ap view e);
+              rest = λ l p b. (z, ap view e ∙ same_view o);
             };
         whole = λ z. e;
       }
+
+-- today's record of the old parts, which questions 1 and 2 accept or refuse
+pub admitted : (o : Reader32) (r : Reader) (x : TakenOver) → r ≡ same_parts o → length o.bytes ≡ 1024
+    → Questions r 0 (why x.refusal) → (why x.refusal ≡ 0 → x.reader ≡ r) → ((why x.refusal ≡ 0 → ⊥) → x.reader ≡ no_record)
+    → TakeOverPost o x
+admitted o r x e w q kept none = by x.refusal refl
+  where
+    asked : Questions (same_parts o) 0 (why x.refusal)
+    asked = subst (λ s. Questions s 0 (why x.refusal)) e q
+
+    by : (f : Option Refusal) → x.refusal ≡ f → TakeOverPost o x
+    by None z = accepts o x.refusal w asked (ap why z) x.reader (kept (ap why z) ∙ e)
+    by (Some v) z = refuses o x.refusal w asked n x.reader (none n)
+      where
+        n : why x.refusal ≡ 0 → ⊥
+        n u = positive v (sym (ap why z) ∙ u)
 
 -- taken over, a record goes on, one that was full among them: a step takes its byte, as the table reads it
 pub steps_on : (o : Reader32) (x : TakenOver) → TakeOverPost o x → o.head.mode ≤ 1 → Possible (view32 o) → o.head.fed ≤ limit32

@@ -1,19 +1,36 @@
 -- Document 02, Point 5: a record with counts of 32 bits, and what taking it over returns.
-use Rattle.std.specs.Prelude.{◌≡◌, ℕ}
+use Rattle.std.specs.Prelude.{Bool, true, false, List, ◌≡◌, ℕ}
+use Rattle.std.specs.Bool.{then_some}
+use Rattle.std.proofs.Math.Option.{Option, none, some}
 use Rattle.refusals.specs.Numbers.{why}
-use Rattle.line.specs.Record.{Rec, Asked}
-use Rattle.latest.specs.Latest.{latest_of}
+use Rattle.line.specs.Record.{Rec, Kept, Asked}
+use Rattle.line.specs.Record.Kept.{k_43, k_46, k_4a, k_4b, k_eb}
+use Rattle.latest.specs.declared.Latest.{Latest}
 use Rattle.record.specs.View.{place_of, first_bytes, view}
 use Rattle.record.specs.Posts.{blank_record}
 use Rattle.record.specs.declared.Head.{Head}
 use Rattle.record.specs.declared.Reader.{Reader}
 use Rattle.takeover.specs.declared.Head32.{Head32}
+use Rattle.takeover.specs.declared.Latest32.{Latest32}
 use Rattle.takeover.specs.declared.Reader32.{Reader32}
 use Rattle.takeover.specs.declared.TakenOver.{TakenOver}
 
 -- what such a record could count to
 abbrev pub limit32 : ℕ
 limit32 = 4294967295
+
+-- the data beside a flag, if it is true
+abbrev pub perhaps : Bool → List ℕ → Option (List ℕ)
+perhaps true d = some d
+perhaps false d = none
+
+-- the old record's latest messages, seen as `latest_of` shows today's
+abbrev pub latest32_of : Latest32 → Kept → Option (List ℕ)
+latest32_of l k_43 = perhaps l.has43 l.d43
+latest32_of l k_46 = perhaps l.has46 l.d46
+latest32_of l k_4a = perhaps l.has4a l.d4a
+latest32_of l k_4b = perhaps l.has4b l.d4b
+latest32_of l k_eb = perhaps l.haseb l.deb
 
 -- the old record, seen as `view` shows today's
 abbrev pub view32 : Reader32 → Rec
@@ -27,7 +44,7 @@ view32 o =
       refused = h.refused;
       outside = h.outside;
       pending = h.pending;
-      latest = latest_of o.latest;
+      latest = latest32_of o.latest;
     }
 
 -- its parts, those without meaning too, in a record of today
@@ -47,8 +64,19 @@ head_of h =
       fed = h.fed;
     }
 
+-- the data beside each flag that is true: today's record has no room for what stands beside another, which has no meaning
+abbrev pub latest_from : Latest32 → Latest
+latest_from l =
+    record {
+      d43 = then_some l.has43 l.d43;
+      d46 = then_some l.has46 l.d46;
+      d4a = then_some l.has4a l.d4a;
+      d4b = then_some l.has4b l.d4b;
+      deb = then_some l.haseb l.deb;
+    }
+
 abbrev pub same_parts : Reader32 → Reader
-same_parts o = record { head = head_of o.head; latest = o.latest; bytes = o.bytes }
+same_parts o = record { head = head_of o.head; latest = latest_from o.latest; bytes = o.bytes }
 
 -- in place of a record: the blank one of a mode that no reader has, which every call that reads bytes refuses by 1
 abbrev pub no_record : Reader

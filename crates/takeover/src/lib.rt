@@ -1,14 +1,16 @@
 // Records of readers that counted in 32 bits, and the call that takes one over.
 #![tactic(auto)]
 
-ghost use Rattle.std.specs.Prelude.{◌≡◌};
-ghost use Rattle.takeover.specs.Takeover.{head_of, TakeOverPost};
+ghost use Rattle.std.specs.Prelude.{◌≡◌, ◌≢◌};
+ghost use Rattle.refusals.specs.Numbers.{why};
+ghost use Rattle.questions.specs.Question.{Questions};
+ghost use Rattle.takeover.specs.Takeover.{head_of, latest_from, no_record, TakeOverPost};
 
 use latest::Latest;
 use record::{Count, Head, Reader};
 use refusals::Refusal;
 
-// The record as it was: today's, with counts of 32 bits.
+// The record as it was: today's, with counts of 32 bits, and a flag beside the data of each latest message.
 #[derive(Clone, Copy)]
 pub struct Head32 {
     pub mode: u8,
@@ -47,10 +49,42 @@ impl From<Head32> for Head {
     }
 }
 
+// The latest message of each kind that is kept, as it was: whether there is one, and its data.
+#[derive(Clone, Copy, Debug, PartialEq, Eq)]
+pub struct Latest32 {
+    pub has43: bool,
+    pub d43: [u8; 6],
+    pub has46: bool,
+    pub d46: [u8; 10],
+    pub has4a: bool,
+    pub d4a: [u8; 33],
+    pub has4b: bool,
+    pub d4b: [u8; 42],
+    pub haseb: bool,
+    pub deb: [u8; 26],
+}
+
+// The data whose flag is true; what stands beside any other flag has no meaning.
+impl From<Latest32> for Latest {
+    ghost from_gives = { λ l t. t ≡ latest_from l };
+
+    fn from(l: Latest32) -> Latest
+        ensures { result ≡ latest_from l }
+    {
+        Latest {
+            d43: l.has43.then_some(l.d43),
+            d46: l.has46.then_some(l.d46),
+            d4a: l.has4a.then_some(l.d4a),
+            d4b: l.has4b.then_some(l.d4b),
+            deb: l.haseb.then_some(l.deb),
+        }
+    }
+}
+
 #[derive(Clone, Copy)]
 pub struct Reader32 {
     pub head: Head32,
-    pub latest: Latest,
+    pub latest: Latest32,
     pub bytes: [u8; Reader::CAPACITY],
 }
 
@@ -64,23 +98,34 @@ pub struct TakenOver {
 // The mode of that record: no reader has it.
 const NO_MODE: u8 = 255;
 
-// Takes a record over, a full one too: question 3 has no part in it. One that questions 1 or 2 refuse yields no record.
-pub fn take_over(old: Reader32) -> TakenOver
-    ensures { TakeOverPost old result }
+// A record of today, as it is where questions 1 and 2 accept it, with no byte offered; else the one by which no byte can be read.
+fn admit(reader: Reader) -> TakenOver
+    ensures asked { Questions reader 0 (why result.refusal) }
+    ensures accepted { why result.refusal ≡ 0 → result.reader ≡ reader }
+    ensures refused { why result.refusal ≢ 0 → result.reader ≡ no_record }
 {
-    let head = Head::from(old.head);
-    match questions::question(head, old.latest, &old.bytes, 0) {
+    match questions::question(reader.head, reader.latest, &reader.bytes, 0) {
         Ok(()) => TakenOver {
             refusal: None,
-            reader: Reader {
-                head,
-                latest: old.latest,
-                bytes: old.bytes,
-            },
+            reader,
         },
         Err(refusal) => TakenOver {
             refusal: Some(refusal),
             reader: Reader::fresh(NO_MODE).reader,
         },
     }
+}
+
+// Takes a record over, a full one too: question 3 has no part in it. One that questions 1 or 2 refuse yields no record.
+pub fn take_over(old: Reader32) -> TakenOver
+    ensures { TakeOverPost old result }
+{
+    let head = Head::from(old.head);
+    let latest = Latest::from(old.latest);
+    let bytes = old.bytes;
+    admit(Reader {
+        head,
+        latest,
+        bytes,
+    })
 }

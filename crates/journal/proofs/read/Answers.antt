@@ -1,17 +1,16 @@
 -- `read` meets its contract: each answer is by the tests that led to it.
-use mathlib.Core.Bool.{false, not, ◌&&◌}
+use mathlib.Core.Bool.{not, ◌&&◌}
 use mathlib.Core.List.{List}
 use mathlib.Core.Path.{◌≡◌, sym, ◌∙◌}
 use Prim.Native.Nat.{ℕ, ◌+◌, ◌-◌}
 use native.Mathlib.Omega.{arith}
-use borrow.Author.Rules.{rules}
 use borrow.Author.Tests.{eq-eqb, ne_eqb}
-use lib.Dec.{eqb, ltb}
+use lib.Dec.{ltb}
 use lib.ListN.{length, take, drop}
 use Rattle.octets.specs.Bytes.{byte}
 use Rattle.kinds.specs.Kinds.{content}
 use Rattle.journal.specs.Records.{restored}
-use Rattle.journal.specs.Calls.{answer, judged, marked, length_in, read_of}
+use Rattle.journal.specs.Calls.{judged, marked, length_in, read_of}
 use Rattle.journal.proofs.ReadingLaws.{read_end, read_unmarked, read_short, read_cut, read_record}
 use Rattle.journal.proofs.read.Goals as goal
 use Rattle.journal.proofs.read.Goals.{After-is_marked, After-restore}
@@ -52,7 +51,4 @@ whole c =
 
 pub returns : goal.returns
 returns c =
-    let w = whole (goal.at.returns c).After-restore in
-    let e : answer c.restore.result ≡ read_of c.args.bytes.now = c.restore.ensures ∙ w in
-    let n : false ≡ eqb (length c.args.bytes.now) 0 = sym (ne_eqb _ 0 c.if-n-eq0.false) in
-    search (rules, e, n)
+    (c.restore.ensures.0 ∙ whole (goal.at.returns c).After-restore, c.restore.ensures.1 ∙ sym (ne_eqb _ 0 c.if-n-eq0.false))

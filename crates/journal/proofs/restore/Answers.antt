@@ -1,7 +1,7 @@
 -- `restore` meets its contract: data too long for the array is refused as it is; other data stands in line order in the array, and is judged there.
 use mathlib.Core.Bool.{true, false}
 use mathlib.Core.List.{List}
-use mathlib.Core.Path.{◌≡◌, sym, ap, ◌∙◌}
+use mathlib.Core.Path.{◌≡◌, refl, sym, ap, ◌∙◌}
 use Prim.Native.Nat.{ℕ, ◌+◌, ◌≤◌, ◌<◌}
 use native.Mathlib.Omega.{arith}
 use borrow.Author.Tests.{leb-true, leb-false}
@@ -78,13 +78,15 @@ pub returns-in_err-content : goal.returns-in_err-content
 returns-in_err-content c =
     let r = c.in_err-content.field-0.0 in
     let g : c.from_residual.result ≡ Err r = search rules in
-    rw g (refused_alike (goal.at.returns-in_err-content c).After-content r c.in_err-content.ensures)
+    rw g (refused_alike (goal.at.returns-in_err-content c).After-content r c.in_err-content.ensures, refl)
 
 pub returns : goal.returns
 returns c =
     let a = c.args in
     let d : List ℕ = restored a.id a.body.now in
     let n : length a.body.now ≡ length d = sym (length_restored a.id a.body.now) in
-    let yes : 0 ≡ content a.id c.if-in_order.data.now = search rules in
-    (λ k. record { refusal = 0; id = a.id; length = n k; taken = 5 + n k; bytes = in_order (goal.at.returns c).After-unstore-in_order k })
-    ∙ sym (judged_given (content a.id d) a.id d (sym (given_alike (goal.at.returns c).After-content yes)))
+    let yes : 0 ≡ content a.id c.if-in_order.data.now = search rules in (
+      (λ k. record { refusal = 0; id = a.id; length = n k; taken = 5 + n k; bytes = in_order (goal.at.returns c).After-unstore-in_order k })
+          ∙ sym (judged_given (content a.id d) a.id d (sym (given_alike (goal.at.returns c).After-content yes))),
+      refl,
+    )

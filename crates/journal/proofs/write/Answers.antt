@@ -1,10 +1,9 @@
 -- `write` meets its contract: each answer is by the tests that led to it.
 use Rattle.std.proofs.Common.{rules, ◌≡◌, refl, sym, ap, ◌∙◌, arith, Ok, Err}
 use Rattle.refusals.proofs.NumberLaws.{positive}
-use Rattle.octets.specs.Placing.{placed}
 use Rattle.octets.specs.Delivery.{Written, written}
-use Rattle.batch.specs.Entries.{Contents, list_of}
-use Rattle.journal.specs.Calls.{measured, records_in}
+use Rattle.batch.specs.Entries.{list_of}
+use Rattle.journal.specs.Calls.{measured}
 use Rattle.journal.proofs.WritingLaws.{write_refused, write_short, write_done}
 use Rattle.journal.proofs.write.Goals as goal
 use Rattle.journal.proofs.write.Goals.{In_ok-length}
@@ -34,11 +33,11 @@ returns-then-buf-length c =
 
 pub put_records-requires : goal.put_records-requires
 put_records-requires c =
-    let e = c.in_ok-length.ensures in
+    let e = long (goal.at.put_records-requires c).In_ok-length in
     (ap (λ (w : Written). w.refusal) (sym e), omega (arith, ap (λ (w : Written). w.length) e, c.if-buf-length.false))
 
 pub returns : goal.returns
 returns c =
     let a = c.args in
     write_done a.list.now a.buf.now (written (Ok c.in_ok-length.length)) (long (goal.at.returns c).In_ok-length) refl c.if-buf-length.false _
-    (c.put_records.ensures ∙ ap (λ (k : Contents). placed a.buf.now 0 (records_in k)) c.in_ok-messages.ensures.0)
+    c.put_records.ensures

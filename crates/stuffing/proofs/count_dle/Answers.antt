@@ -1,9 +1,14 @@
--- `stuffing::count_dle` meets its contract: the library's count is the definition's.
+-- `stuffing::count_dle` meets its contract.
+use Rattle.std.proofs.Common.{add-one, arith, drop-cons}
+use lib.Seq.{drop-length}
 use Rattle.std.proofs.lemmas.Grind.{common_steps}
-use native.Mathlib.Omega.{arith}
-use Rattle.std.proofs.iter.runs.Made.{chains}
-use Rattle.stuffing.proofs.StuffingLaws.{dles_count}
+use Rattle.stuffing.specs.Stuffing.{dles}
 use Rattle.stuffing.proofs.count_dle.Goals as goal
 
+pub loop-b-preserved : goal.loop-b-preserved
+unfolding dles
+loop-b-preserved c = grind (arith, common_steps, add-one, drop-cons)
+
 pub returns : goal.returns
-returns c = grind (arith, common_steps, chains, dles_count)
+unfolding dles
+returns c = grind (arith, common_steps, drop-length)
