@@ -3,13 +3,13 @@ use mathlib.Core.Bool.{Bool, true, false, cond, ◌&&◌, and-eq-true_iff}
 use mathlib.Core.List.{List, [], ◌++◌, append-nil}
 use mathlib.Core.Path.{◌≡◌, refl, sym, ap, ◌∙◌}
 use Prim.Native.Nat.{ℕ, ◌+◌, ◌*◌, ◌-◌, ◌/◌, ◌%◌, ◌≤◌, ◌<◌}
-use native.Mathlib.Nat.{zero-add, zero-mul, mul_comm, mul-suc, mul-le-mul_left, div-add-mod}
+use native.Mathlib.Nat.{le_refl, zero-add, zero-mul, one-mul, mul_comm, mul-suc, mul-le-mul_left, div-add-mod}
 use native.Mathlib.Numerals.{add-one}
 use native.Mathlib.Omega.{arith}
 use borrow.Rule.Slice.PartMut.{put_mid}
 use borrow.Author.Tests.{leb-true, le-leb, lt-leb, eqb-true, eq-eqb, ne_eqb}
 use lib.Dec.{eqb, leb}
-use lib.ListN.{length, take, drop, set, length-append, length-drop}
+use lib.ListN.{length, take, drop, set, length-append, length-drop, take-append-drop}
 use lib.Seq.{take_all, get_or-take, get_or-drop, length-take-le}
 use Rattle.std.proofs.lemmas.List.{drop_all}
 use Rattle.octets.specs.Bytes.{byte}
@@ -153,6 +153,27 @@ long_rows h w s e = (whole_parts h w (length s) e).2 ∙ ap (λ (k : ℕ). h + k
 -- without entries there is no column
 pub crossed_none : (w : ℕ) (s : List ℕ) → crossed 0 w s ≡ []
 crossed_none w s = sym (take_all 0 (crossed 0 w s) (omega (arith, length_crossed 0 w s, zero-mul w)))
+
+-- of entries of one byte there is one column, which is they themselves
+crossed_one : (s : List ℕ) → crossed (length s) 1 s ≡ s
+unfolding crossed laid_out
+crossed_one s =
+    firsts_same (λ i. byte s (1 * i + 0)) (byte s) (length s) (λ i _. ap (byte s) (omega (arith, one-mul i)))
+    ∙ firsts_take s 0 (length s) (le_refl (length s))
+    ∙ take_all (length s) s (le_refl (length s))
+
+columns_one : (h : ℕ) (d : List ℕ) → whole h 1 (length d) ≡ true → by_columns h 1 d ≡ d
+columns_one h d e =
+    let n : count_of h 1 d ≡ length (drop h d) = sym (behind h 1 d e ∙ one-mul (count_of h 1 d)) in
+    columns_whole h 1 d e
+    ∙ ap (λ k. take h d ++ crossed k 1 (drop h d)) n
+    ∙ ap (λ l. take h d ++ l) (crossed_one (drop h d))
+    ∙ take-append-drop h d
+
+pub columns_few : (h w : ℕ) (d : List ℕ) → whole h w (length d) ≡ true → w ≤ 1 → by_columns h w d ≡ d
+columns_few h w d e n =
+    let one : w ≡ 1 = let p = (whole_parts h w (length d) e).1 in omega (arith, p, n) in
+    ap (λ k. by_columns h k d) one ∙ columns_one h d (ap (λ k. whole h k (length d)) (sym one) ∙ e)
 
 -- a column as the code gathers it, behind the header
 pub column_at : (h n w : ℕ) (s : List ℕ) (j : ℕ) → firsts (λ i. byte s (h + j + w * i)) n ≡ column n w (drop h s) j

@@ -72,7 +72,7 @@ pub fn in_46(body: &[u8]) -> bool
 fn triple(system: u8, number: u8, used: u8) -> bool
     ensures { result ≡ (satellite system number && between 1 2 used) }
 {
-    satellites::satellite(system, number) && (1..=2).contains(&used)
+    satellites::satellite(system, number) & (1..=2).contains(&used)
 }
 
 // One pass, with the set of the satellites seen: 56 triples, 56 satellites and none twice, so each is there once.
@@ -136,9 +136,9 @@ fn in_entry(e: &[u8]) -> bool
     let elevation = octets::byte_at(e, 3);
     let azimuth = numbers::u16_at(e, 4);
     satellites::visible(system, octets::byte_at(e, 1))
-        && carrier_byte(system, octets::byte_at(e, 2))
-        && elevation <= 90
-        && azimuth <= 359
+        & carrier_byte(system, octets::byte_at(e, 2))
+        & (elevation <= 90)
+        & (azimuth <= 359)
 }
 
 pub fn in_52(body: &[u8]) -> bool

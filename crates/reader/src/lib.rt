@@ -5,6 +5,7 @@
 ghost use Rattle.std.specs.Prelude.{false, List, ◌≡◌, ℕ, ◌+◌, ◌-◌, ◌<◌, ◌≤◌, length, take};
 ghost use Rattle.std.proofs.Math.Option.{Option};
 ghost use Rattle.refusals.specs.Numbers.{code};
+ghost use Rattle.stuffing.specs.Stuffing.{DLE};
 ghost use Rattle.line.specs.Frame.{mode_of, judge as judgeOf};
 ghost use Rattle.line.specs.Record.{limit, Kept};
 ghost use Rattle.record.specs.Posts.{InPlacePost};
@@ -242,6 +243,23 @@ fn in_f(m: Moving, d: &mut [u8; Reader::CAPACITY], s: &[u8], at: usize, n: usize
     }
 }
 
+// A DLE doubled: one of the data, or one too many.
+fn in_dle(m: Moving, d: &mut [u8; Reader::CAPACITY], at: usize, n: usize) -> Moved
+    requires taken { Taken m at n 3 }
+    requires held { Held m d.old }
+    ensures moves { (k : ℕ) → Moves k m d.old d.new DLE at n result }
+    ensures d_len { length d.new ≡ 1024 }
+{
+    let k = m.len;
+    if k < Reader::CAPACITY {
+        d[k] = Reader::DLE;
+        let w = moving_of(m.place, m.id, m.c1, m.c2, k + 1, m.outside, m.pending);
+        go(w, Reader::F, at)
+    } else {
+        shut(m, Act::Refused(Refusal::TooLong), at)
+    }
+}
+
 // FD: a DLE of the data, an end, a checksum, or the start of another frame.
 fn in_fd(mode: u8, m: Moving, d: &mut [u8; Reader::CAPACITY], b: u8, at: usize, n: usize) -> Moved
     requires taken { Taken m at n 3 }
@@ -250,16 +268,7 @@ fn in_fd(mode: u8, m: Moving, d: &mut [u8; Reader::CAPACITY], b: u8, at: usize, 
     ensures d_len { length d.new ≡ 1024 }
 {
     match b {
-        Reader::DLE => {
-            let k = m.len;
-            if k < Reader::CAPACITY {
-                d[k] = b;
-                let w = moving_of(m.place, m.id, m.c1, m.c2, k + 1, m.outside, m.pending);
-                go(w, Reader::F, at)
-            } else {
-                shut(m, Act::Refused(Refusal::TooLong), at)
-            }
-        }
+        Reader::DLE => in_dle(m, d, at, n),
         Reader::ETX => if mode == 0 {
             shut(m, Act::Ended, at)
         } else {
@@ -318,7 +327,8 @@ fn in_ed(m: Moving, b: u8, at: usize, n: usize) -> Moved
     }
 }
 
-// Bytes from one place on: at least one, up to n.
+// Bytes from one place on: at least one, up to n. The two arms with a test are what `in_f` and `in_fd` do with a DLE; doubled ones, of
+// which data may have many, go a shorter way by them.
 fn advance(
     mode: u8,
     m: Moving,
@@ -337,7 +347,9 @@ fn advance(
     match m.place {
         Reader::W => in_w(m, s, at, n),
         Reader::WD => in_wd(m, b, next, n),
+        Reader::F if b == Reader::DLE => go(m, Reader::FD, next),
         Reader::F => in_f(m, d, s, at, n),
+        Reader::FD if b == Reader::DLE => in_dle(m, d, next, n),
         Reader::FD => in_fd(mode, m, d, b, next, n),
         Reader::C0 => in_c0(m, b, next, n),
         Reader::C1 => in_c1(m, b, next, n),
@@ -547,8 +559,9 @@ pub fn feed_in_place(h: Head, l: Latest, d: &mut [u8; Reader::CAPACITY], s: &[u8
     let n = span(h.fed, s.len());
     let t = run(h.mode, m, d, s, n);
     let o = finish(h, t, d);
-    match o.event {
-        Event::Message => give(o, latest::store(l, o.id, d, o.len), t.at),
-        Event::Nothing | Event::Refusal(_) => give(o, l, t.at),
+    // Two returns: as the value of a `match` the answer is cleared first and copied once more.
+    if let Event::Message = o.event {
+        return give(o, latest::store(l, o.id, d, o.len), t.at);
     }
+    give(o, l, t.at)
 }

@@ -6,15 +6,17 @@ ghost use Rattle.std.specs.Prelude.{cond, ◌≡◌, eqb, ltb};
 ghost use Rattle.satellites.specs.Satellites.{satellite, place_of, visible, carrier};
 ghost use Rattle.satellites.specs.Sets.{bit, with_bit};
 
-// Whether there is such a satellite: system 1 (GPS) with 1 to 32, system 2 (GLONASS) with 1 to 24.
+// Whether there is such a satellite: system 1 (GPS) with 1 to 32, system 2 (GLONASS) with 1 to 24. The system chooses a number alone,
+// which takes no branch: where systems come mixed, the processor guesses a branch by the system wrong.
 pub fn satellite(system: u8, number: u8) -> bool
     ensures { result ≡ satellite system number }
 {
-    match system {
-        1 => (1..=32).contains(&number),
-        2 => (1..=24).contains(&number),
-        _ => false,
-    }
+    let most = match system {
+        1 => 32,
+        2 => 24,
+        _ => 0,
+    };
+    (1..=most).contains(&number)
 }
 
 // The place of a satellite among the 56: 0 to 31 of system 1, 32 to 55 of system 2. 56 where there is no such satellite.
@@ -52,7 +54,7 @@ pub fn insert(set: u64, place: u64) -> u64
 pub fn visible(system: u8, number: u8) -> bool
     ensures { result ≡ visible system number }
 {
-    satellite(system, number) || (system == 4 && (120..=158).contains(&number))
+    satellite(system, number) | ((system == 4) & (120..=158).contains(&number))
 }
 
 // A carrier number of GLONASS.

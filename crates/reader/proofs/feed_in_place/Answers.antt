@@ -1,7 +1,6 @@
 -- `reader::feed_in_place` meets its contract: questions 1 to 3, then the bytes, then what they come to.
-use Rattle.std.proofs.Common.{◌≡◌, sym, ap, ◌∙◌, take}
+use Rattle.std.proofs.Common.{◌≡◌, refl, sym, ap, ◌∙◌, take}
 use mathlib.Core.Bool.{false}
-use mathlib.Core.Logic.{inl, inr}
 use Rattle.line.specs.Record.{Kept}
 use Rattle.latest.specs.Latest.{latest_of}
 use Rattle.latest.specs.declared.Latest.{Latest}
@@ -9,6 +8,8 @@ use Rattle.latest.proofs.Storing.{stored_acceptable}
 use Rattle.refusals.specs.Numbers.{code}
 use Rattle.record.specs.View.{record_of}
 use Rattle.record.specs.Posts.{InPlacePost, fed_of}
+use Rattle.record.specs.declared.Event.{Event}
+use Rattle.record.specs.declared.Event.TheVariants.{Nothing, Message, Refusal}
 use Rattle.record.specs.declared.InPlace.{InPlace}
 use Rattle.reader.specs.Moving.{result_of}
 use Rattle.reader.specs.Closing.{Ready, is_message, stored_by, given_by}
@@ -16,6 +17,12 @@ use Rattle.reader.proofs.Beginning.{start_pends, start_sound, start_fits, ready_
 use Rattle.reader.proofs.Giving.{Comes, out, gives, refuses, answers}
 use Rattle.reader.proofs.feed_in_place.Goals as goal
 use Rattle.reader.proofs.feed_in_place.Goals.{After-finish-o}
+
+-- an event that is none
+no_message : (e : Event) → (e ≡ Message → ⊥) → is_message e ≡ false
+no_message Nothing n = refl
+no_message Message n = absurd (n refl)
+no_message (Refusal v) n = refl
 
 -- past questions 1 to 3
 granted : (o : After-finish-o) → code o.question.result ≡ 0
@@ -77,10 +84,9 @@ returns-in-Message c =
     ∙ stored_acceptable f.id d l ((c.finish-o.ensures l).good (ap is_message c.in-Message.is)) j
     ∙ ap (λ u. stored_by (is_message u) f.id d l j) (sym c.in-Message.is))
 
-pub returns-in-Nothing : goal.returns-in-Nothing
-returns-in-Nothing c =
+pub returns : goal.returns
+returns c =
     let f = c.finish-o.result in
     let l = latest_of c.args.l in
-    let none : is_message f.event ≡ false = elim c.in-Nothing.is [ inl e ↦ ap is_message e | inr e ↦ ap is_message e.1 ] in
-    gave (goal.at.returns-in-Nothing c).After-finish-o _ c.args.l c.give-in-Nothing.ensures
-    (λ j. ap (λ u. stored_by u f.id (take f.len c.run-t.new.d) l j) (sym none))
+    gave (goal.at.returns c).After-finish-o _ c.args.l c.give-2.ensures
+    (λ j. ap (λ u. stored_by u f.id (take f.len c.run-t.new.d) l j) (sym (no_message f.event c.in_default-event.not-Message)))

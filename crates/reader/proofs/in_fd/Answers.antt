@@ -1,36 +1,25 @@
 -- `reader::in_fd` meets its contract: the table in FD.
-use Rattle.std.proofs.Common.{◌≡◌, refl, sym, ap, ◌∙◌, ◌+◌, take, arith}
+use Rattle.std.proofs.Common.{refl, sym, ap, ◌∙◌, ◌+◌, take, arith}
 use Rattle.line.specs.Frame.{mode_of, judge}
 use Rattle.line.specs.Frame.Class.{etx, sum}
 use Rattle.line.specs.Table.{pending, ends}
 use Rattle.line.specs.Table.State.{FD}
 use Rattle.line.proofs.Classes.{class_other}
 use Rattle.record.specs.View.{place_of}
-use Rattle.record.proofs.Data.{is_dle, is_etx, is_sum}
-use Rattle.refusals.specs.declared.Refusal.TheVariants.{Cut, SumMissing, SumUnexpected, TooLong}
-use Rattle.reader.proofs.Rows.{placed, row_mode, mode_summed, steps_went, steps_refused, steps_reopened, steps_ended, steps_stored, full_join}
+use Rattle.record.proofs.Data.{is_etx, is_sum}
+use Rattle.refusals.specs.declared.Refusal.TheVariants.{Cut, SumMissing, SumUnexpected}
+use Rattle.reader.proofs.Rows.{placed, row_mode, mode_summed, steps_went, steps_refused, steps_reopened, steps_ended}
 use Rattle.reader.proofs.in_fd.Goals as goal
 
-pub returns-then-k-lt-CAPACITY-clause-moves : goal.returns-then-k-lt-CAPACITY-clause-moves
-unfolding place_of
-returns-then-k-lt-CAPACITY-clause-moves c =
-    rw (c.go.ensures, c.moving_of-w.ensures)
-    (steps_stored c.requires.taken (is_dle c.args.b c.in-16.is) refl c.requires.held.whole c.if-k-lt-CAPACITY.true c.requires.held.pends)
-
-pub returns-else-k-lt-CAPACITY-clause-moves : goal.returns-else-k-lt-CAPACITY-clause-moves
-unfolding place_of
-returns-else-k-lt-CAPACITY-clause-moves c =
-    let x = c.args in
-    let l : x.m.len ≡ 1024 = omega (arith, c.if-k-lt-CAPACITY.false, c.requires.taken.fits.short) in
-    rw c.shut.ensures
-    (steps_refused c.requires.taken TooLong (is_dle x.b c.in-16.is) (full_join x.m.id x.d.now x.m.len x.b _ c.requires.held.whole l) (omega arith) c.requires.held.pends)
+pub returns-in-16-clause-moves : goal.returns-in-16-clause-moves
+returns-in-16-clause-moves c = rw c.in-16.is (c.in_dle.ensures.moves c.args.mode)
 
 pub returns-then-mode-eq0-clause-moves : goal.returns-then-mode-eq0-clause-moves
 unfolding place_of
 returns-then-mode-eq0-clause-moves c =
     let x = c.args in
     let d = take x.m.len x.d.now in
-    rw c.shut-then-mode-eq0.ensures
+    rw c.shut.ensures
     (steps_ended c.requires.taken (is_etx x.b c.in-3.is)
     (row_mode (placed x.m x.d.now 3) etx x.b (ap mode_of c.if-mode-eq0.true) refl
     ∙ (λ i. ends (judge (ap mode_of (sym c.if-mode-eq0.true) i) x.m.id d x.m.c1 x.m.c2) x.m.id d (pending (FD x.m.id d) + 1)))
@@ -56,7 +45,7 @@ pub returns-else-mode-eq0-2-clause-moves : goal.returns-else-mode-eq0-2-clause-m
 unfolding place_of
 returns-else-mode-eq0-2-clause-moves c =
     let x = c.args in
-    rw c.go-else-mode-eq0-2.ensures
+    rw c.go.ensures
     (steps_went c.requires.taken (is_sum x.b c.in-255.is)
     (row_mode (placed x.m x.d.now 3) sum x.b (mode_summed x.mode c.if-mode-eq0-2.false) refl) refl (omega arith) c.requires.held.pends)
 
