@@ -146,22 +146,6 @@ fn head32_of(s: &[u8]) -> Head32 {
     }
 }
 
-// Zeros beside a flag that is false, as a fresh record had them.
-fn latest32_of(l: Latest) -> Latest32 {
-    Latest32 {
-        has43: l.d43.is_some(),
-        d43: l.d43.unwrap_or([0; 6]),
-        has46: l.d46.is_some(),
-        d46: l.d46.unwrap_or([0; 10]),
-        has4a: l.d4a.is_some(),
-        d4a: l.d4a.unwrap_or([0; 33]),
-        has4b: l.d4b.is_some(),
-        d4b: l.d4b.unwrap_or([0; 42]),
-        haseb: l.deb.is_some(),
-        deb: l.deb.unwrap_or([0; 26]),
-    }
-}
-
 // One call in place.
 fn feed_in_place(rt: &impl Print, r: Reader, s: &[u8]) -> io::Result<()> {
     let mut bytes = r.bytes;
@@ -241,7 +225,7 @@ fn record32(rt: &impl Print, s: &[u8]) -> io::Result<()> {
     };
     let old = Reader32 {
         head: head32_of(parts.head),
-        latest: latest32_of(parts.latest),
+        latest: Latest32::from(parts.latest),
         bytes: parts.bytes,
     };
     let taken = takeover::take_over(old);

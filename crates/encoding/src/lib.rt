@@ -13,14 +13,12 @@ use std::array;
 
 // The fields of a kind of message, from its data and as its data.
 pub trait Fields: Copy {
-    // The identifier of the kind, the fields that data has, the data of fields, and what decoding answers.
+    // The identifier of the kind, the fields that data has, and the data of fields.
     ghost ID: { ℕ };
 
     ghost fields_of: { List ℕ → Self };
 
     ghost data_of: { Self → List ℕ };
-
-    ghost decoded_of: { List ℕ → Result Self ℕ };
 
     const ID: u8;
 
@@ -32,9 +30,13 @@ pub trait Fields: Copy {
     fn encode(self, buf: &mut [u8]) -> Result<usize, Refusal>
         ensures { (written result ≡ encoded_of ID (data_of self) buf.old)
             × (buf.new ≡ encoded_into ID (data_of self) buf.old) };
+}
 
-    // The kind that answers is the one that the identifier names.
-    ghost decodes: { (d : List ℕ) → decoded_of d ≡ decoded_as ID fields_of d };
+// A kind that has a definition of what decoding answers. By the law `decode` answers just that: so the identifier is the kind's own.
+pub trait Decoded: Fields {
+    ghost decoded_of: { List ℕ → Result Self ℕ };
+
+    ghost decodes: { (d : List ℕ) → decoded_of d ≡ decoded_as Self.Fields.ID Self.Fields.fields_of d };
 }
 
 // The fields of a kind's data, where it is acceptable.

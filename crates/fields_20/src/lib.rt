@@ -5,7 +5,7 @@ ghost use Rattle.std.specs.Prelude.{◌≡◌, refl};
 ghost use Rattle.rows.specs.Layout.{words};
 ghost use Rattle.fields_20.specs.Fields.{fields_of, rows_of, data_of, decoded_of};
 
-use encoding::Fields;
+use encoding::{Decoded, Fields};
 use refusals::Refusal;
 
 // 20h: a satellite of a system.
@@ -30,8 +30,6 @@ impl Fields for Satellite {
 
     ghost data_of = { data_of };
 
-    ghost decoded_of = { decoded_of };
-
     const ID: u8 = 0x20;
 
     fn read(body: &[u8]) -> Satellite {
@@ -44,6 +42,10 @@ impl Fields for Satellite {
     fn encode(self, buf: &mut [u8]) -> Result<usize, Refusal> {
         rows::encode(Satellite::ID, &words_of(self), &WIDTHS, buf)
     }
+}
+
+impl Decoded for Satellite {
+    ghost decoded_of = { decoded_of };
 
     ghost decodes = { λ d. refl };
 }

@@ -5,7 +5,7 @@ ghost use Rattle.std.specs.Prelude.{◌≡◌, refl};
 ghost use Rattle.rows.specs.Layout.{words};
 ghost use Rattle.fields_23.specs.Fields.{fields_of, all_rows, data_of, decoded_of};
 
-use encoding::Fields;
+use encoding::{Decoded, Fields};
 use refusals::Refusal;
 
 // 23h: the zone, if the count of bytes is 2.
@@ -36,8 +36,6 @@ impl Fields for Zone {
 
     ghost data_of = { data_of };
 
-    ghost decoded_of = { decoded_of };
-
     const ID: u8 = 0x23;
 
     fn read(body: &[u8]) -> Zone {
@@ -52,6 +50,10 @@ impl Fields for Zone {
         let count = self.count.min(3);
         rows::encode(Zone::ID, &words_of(self), &WIDTHS[..count], buf)
     }
+}
+
+impl Decoded for Zone {
+    ghost decoded_of = { decoded_of };
 
     ghost decodes = { λ d. refl };
 }

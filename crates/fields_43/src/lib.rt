@@ -5,7 +5,7 @@ ghost use Rattle.std.specs.Prelude.{◌≡◌, refl};
 ghost use Rattle.rows.specs.Layout.{words};
 ghost use Rattle.fields_43.specs.Fields.{result_of, result_byte, fields_of, rows_of, data_of, decoded_of};
 
-use encoding::Fields;
+use encoding::{Decoded, Fields};
 use refusals::Refusal;
 
 // 43h: the result byte's parts.
@@ -55,8 +55,6 @@ impl Fields for Outcome {
 
     ghost data_of = { data_of };
 
-    ghost decoded_of = { decoded_of };
-
     const ID: u8 = 0x43;
 
     fn read(body: &[u8]) -> Outcome {
@@ -66,6 +64,10 @@ impl Fields for Outcome {
     fn encode(self, buf: &mut [u8]) -> Result<usize, Refusal> {
         rows::encode(Outcome::ID, &words_of(self), &WIDTHS, buf)
     }
+}
+
+impl Decoded for Outcome {
+    ghost decoded_of = { decoded_of };
 
     ghost decodes = { λ d. refl };
 }

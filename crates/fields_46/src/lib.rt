@@ -5,7 +5,7 @@ ghost use Rattle.std.specs.Prelude.{◌≡◌, refl};
 ghost use Rattle.rows.specs.Layout.{words};
 ghost use Rattle.fields_46.specs.Fields.{fields_of, rows_of, data_of, decoded_of};
 
-use encoding::Fields;
+use encoding::{Decoded, Fields};
 use refusals::Refusal;
 
 // 46h: time, date and zone (000, Table 37).
@@ -41,8 +41,6 @@ impl Fields for Time {
 
     ghost data_of = { data_of };
 
-    ghost decoded_of = { decoded_of };
-
     const ID: u8 = 0x46;
 
     fn read(body: &[u8]) -> Time {
@@ -59,6 +57,10 @@ impl Fields for Time {
     fn encode(self, buf: &mut [u8]) -> Result<usize, Refusal> {
         rows::encode(Time::ID, &words_of(self), &WIDTHS, buf)
     }
+}
+
+impl Decoded for Time {
+    ghost decoded_of = { decoded_of };
 
     ghost decodes = { λ d. refl };
 }

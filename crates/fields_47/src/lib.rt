@@ -6,7 +6,7 @@ ghost use Rattle.std.proofs.Common.{rules};
 ghost use Rattle.encoding.specs.Entries.{entry_slice};
 ghost use Rattle.fields_47.specs.Fields.{entry_of, entry_data, blank, uses, fields_of, data_of, decoded_of};
 
-use encoding::{Entry, Fields};
+use encoding::{Decoded, Entry, Fields};
 use refusals::Refusal;
 use std::array;
 
@@ -77,8 +77,6 @@ impl Fields for Uses {
 
     ghost data_of = { data_of };
 
-    ghost decoded_of = { decoded_of };
-
     const ID: u8 = 0x47;
 
     fn read(body: &[u8]) -> Uses {
@@ -92,6 +90,10 @@ impl Fields for Uses {
         encoding::lay_out(&self.triples, &mut all);
         encoding::deliver(Uses::ID, &all, buf)
     }
+}
+
+impl Decoded for Uses {
+    ghost decoded_of = { decoded_of };
 
     ghost decodes = { λ d. refl };
 }

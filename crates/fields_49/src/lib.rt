@@ -6,7 +6,7 @@ ghost use Rattle.std.specs.Prelude.{◌≡◌, refl};
 ghost use Rattle.rows.specs.Layout.{words};
 ghost use Rattle.fields_49.specs.Fields.{fields_of_gps, rows_of_gps, fields_of_glonass, rows_of_glonass, fields_of, data_of, decoded_of};
 
-use encoding::Fields;
+use encoding::{Decoded, Fields};
 use refusals::Refusal;
 
 // 49h: ephemeris of a GPS satellite, first byte 1 (000, Table 39).
@@ -186,8 +186,6 @@ impl Fields for Ephemeris {
 
     ghost data_of = { data_of };
 
-    ghost decoded_of = { decoded_of };
-
     const ID: u8 = 0x49;
 
     fn read(body: &[u8]) -> Ephemeris {
@@ -209,6 +207,10 @@ impl Fields for Ephemeris {
             ),
         }
     }
+}
+
+impl Decoded for Ephemeris {
+    ghost decoded_of = { decoded_of };
 
     ghost decodes = { λ d. refl };
 }

@@ -6,7 +6,7 @@ ghost use Rattle.std.specs.Prelude.{◌≡◌, refl};
 ghost use Rattle.rows.specs.Layout.{words};
 ghost use Rattle.fields_4a.specs.Fields.{fields_of, rows_of, data_of, decoded_of};
 
-use encoding::Fields;
+use encoding::{Decoded, Fields};
 use refusals::Refusal;
 
 // 4Ah: ionosphere parameters (000, Table 40).
@@ -48,8 +48,6 @@ impl Fields for Ionosphere {
 
     ghost data_of = { data_of };
 
-    ghost decoded_of = { decoded_of };
-
     const ID: u8 = 0x4A;
 
     fn read(body: &[u8]) -> Ionosphere {
@@ -69,6 +67,10 @@ impl Fields for Ionosphere {
     fn encode(self, buf: &mut [u8]) -> Result<usize, Refusal> {
         rows::encode(Ionosphere::ID, &words_of(self), &WIDTHS, buf)
     }
+}
+
+impl Decoded for Ionosphere {
+    ghost decoded_of = { decoded_of };
 
     ghost decodes = { λ d. refl };
 }

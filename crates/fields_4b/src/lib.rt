@@ -6,7 +6,7 @@ ghost use Rattle.std.specs.Prelude.{◌≡◌, refl};
 ghost use Rattle.rows.specs.Layout.{words};
 ghost use Rattle.fields_4b.specs.Fields.{fields_of, rows_of, data_of, decoded_of};
 
-use encoding::Fields;
+use encoding::{Decoded, Fields};
 use refusals::Refusal;
 
 // 4Bh: GPS, GLONASS and UTC time scales (002, Table 48).
@@ -54,8 +54,6 @@ impl Fields for Scales {
 
     ghost data_of = { data_of };
 
-    ghost decoded_of = { decoded_of };
-
     const ID: u8 = 0x4B;
 
     fn read(body: &[u8]) -> Scales {
@@ -78,6 +76,10 @@ impl Fields for Scales {
     fn encode(self, buf: &mut [u8]) -> Result<usize, Refusal> {
         rows::encode(Scales::ID, &words_of(self), &WIDTHS, buf)
     }
+}
+
+impl Decoded for Scales {
+    ghost decoded_of = { decoded_of };
 
     ghost decodes = { λ d. refl };
 }

@@ -5,7 +5,7 @@ ghost use Rattle.std.specs.Prelude.{◌≡◌, refl};
 ghost use Rattle.std.proofs.Common.{rules};
 ghost use Rattle.fields_52.specs.Fields.{entry_of, entry_data, blank, visibles, read_of, data_of, decoded_of};
 
-use encoding::Fields;
+use encoding::{Decoded, Fields};
 use refusals::Refusal;
 
 // An entry of 52h: a satellite, and where it stands.
@@ -81,8 +81,6 @@ impl Fields for Visible {
 
     ghost data_of = { data_of };
 
-    ghost decoded_of = { decoded_of };
-
     const ID: u8 = 0x52;
 
     fn read(body: &[u8]) -> Visible {
@@ -103,6 +101,10 @@ impl Fields for Visible {
         encoding::lay_out(&self.entries[..self.n], &mut all);
         encoding::deliver(Visible::ID, &all[..7 * self.n], buf)
     }
+}
+
+impl Decoded for Visible {
+    ghost decoded_of = { decoded_of };
 
     ghost decodes = { λ d. refl };
 }

@@ -6,7 +6,7 @@ ghost use Rattle.std.specs.Prelude.{◌≡◌, refl};
 ghost use Rattle.rows.specs.Layout.{words};
 ghost use Rattle.fields_eb.specs.Fields.{fields_of, rows_of, data_of, decoded_of};
 
-use encoding::Fields;
+use encoding::{Decoded, Fields};
 use refusals::Refusal;
 
 // EBh: GLONASS time scale parameters (000, Table 57).
@@ -48,8 +48,6 @@ impl Fields for GlonassTime {
 
     ghost data_of = { data_of };
 
-    ghost decoded_of = { decoded_of };
-
     const ID: u8 = 0xEB;
 
     fn read(body: &[u8]) -> GlonassTime {
@@ -69,6 +67,10 @@ impl Fields for GlonassTime {
     fn encode(self, buf: &mut [u8]) -> Result<usize, Refusal> {
         rows::encode(GlonassTime::ID, &words_of(self), &WIDTHS, buf)
     }
+}
+
+impl Decoded for GlonassTime {
+    ghost decoded_of = { decoded_of };
 
     ghost decodes = { λ d. refl };
 }

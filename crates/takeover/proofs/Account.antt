@@ -1,12 +1,8 @@
 -- The account goes on, and every list of calls whose counts fit 32 bits has a record that is taken over.
-use mathlib.Core.List.{List}
-use mathlib.Core.Path.{◌≡◌, refl, sym, ap, ◌∙◌, subst}
+use mathlib.Core.Path.{◌≡◌, sym, ap, ◌∙◌, subst}
 use Prim.Native.Nat.{ℕ, ◌≤◌}
 use native.Mathlib.Omega.{arith}
-use lib.ListN.{length, replicate}
-use Rattle.std.specs.Prelude.{Option, Some, None}
-use Rattle.std.specs.Bool.{then_some}
-use Rattle.std.specs.Option.{is_some, unwrap_or}
+use lib.ListN.{length}
 use Rattle.refusals.specs.Numbers.{why}
 use Rattle.line.specs.Record.{Rec, Possible}
 use Rattle.line.specs.Calls.{History, Demand3, taken}
@@ -18,14 +14,12 @@ use Rattle.record.specs.View.{view}
 use Rattle.record.specs.declared.Reader.{Reader}
 use Rattle.calls.specs.Calls.{Trace}
 use Rattle.calls.proofs.Demand3.{lift, step_seen, feed_seen, demand3}
-use Rattle.latest.specs.declared.Latest.{Latest}
-use Rattle.takeover.specs.declared.Latest32.{Latest32}
 use Rattle.takeover.specs.declared.Reader32.{Reader32}
 use Rattle.takeover.specs.declared.TakenOver.{TakenOver}
-use Rattle.takeover.specs.Takeover.{limit32, view32, latest_from, same_parts, TakeOverPost}
+use Rattle.takeover.specs.Takeover.{limit32, view32, latest32_from, same_parts, TakeOverPost}
 use Rattle.takeover.specs.Account.{From, joined, GoesOn, HadOld}
 use Rattle.takeover.specs.Account.From.{begun, stepped, fed}
-use Rattle.takeover.proofs.Kept.{same_view}
+use Rattle.takeover.proofs.Kept.{same_view, same_flagged}
 
 -- calls on a record that is seen as one which a list of calls left go on from that list
 pub continues : {m : ℕ} {h : History} {q : Reader} {k : History} {r : Reader} → Seen m h (view q) → From q k r → Seen m (joined h k) (view r)
@@ -55,43 +49,13 @@ module _ (m : ℕ) {h : History} {r : Reader} (t : Trace m h r) (o : Reader32) (
   pub goes_on : GoesOn m h x
   goes_on = record { taken_over = resumed.0; account = λ f. demand3-seen m (one_list f) }
 
--- the latest messages with a flag each: zeros where there is none
-abbrev flagged : Latest → Latest32
-flagged l =
-    record {
-      has43 = is_some l.d43;
-      d43 = unwrap_or l.d43 (replicate 6 0);
-      has46 = is_some l.d46;
-      d46 = unwrap_or l.d46 (replicate 10 0);
-      has4a = is_some l.d4a;
-      d4a = unwrap_or l.d4a (replicate 33 0);
-      has4b = is_some l.d4b;
-      d4b = unwrap_or l.d4b (replicate 42 0);
-      haseb = is_some l.deb;
-      deb = unwrap_or l.deb (replicate 26 0);
-    }
-
-again : (o : Option (List ℕ)) (z : List ℕ) → then_some (is_some o) (unwrap_or o z) ≡ o
-again (Some d) z = refl
-again None z = refl
-
-same_flagged : (l : Latest) → latest_from (flagged l) ≡ l
-same_flagged l =
-    λ i. record {
-      d43 = again l.d43 (replicate 6 0) i;
-      d46 = again l.d46 (replicate 10 0) i;
-      d4a = again l.d4a (replicate 33 0) i;
-      d4b = again l.d4b (replicate 42 0) i;
-      deb = again l.deb (replicate 26 0) i;
-    }
-
 -- a record in narrower counts
 abbrev narrowed : Reader → Reader32
 narrowed r =
     let h = r.head in
     record {
       head = record { mode = h.mode; place = h.place; id = h.id; c1 = h.c1; c2 = h.c2; len = h.len; accepted = h.accepted; refused = h.refused; outside = h.outside; pending = h.pending; fed = h.fed };
-      latest = flagged r.latest;
+      latest = latest32_from r.latest;
       bytes = r.bytes;
     }
 

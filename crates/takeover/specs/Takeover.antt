@@ -1,6 +1,7 @@
 -- Document 02, Point 5: a record with counts of 32 bits, and what taking it over returns.
-use Rattle.std.specs.Prelude.{Bool, true, false, List, ◌≡◌, ℕ}
+use Rattle.std.specs.Prelude.{Bool, true, false, List, ◌≡◌, ℕ, replicate}
 use Rattle.std.specs.Bool.{then_some}
+use Rattle.std.specs.Option.{is_some, unwrap_or}
 use Rattle.std.proofs.Math.Option.{Option, none, some}
 use Rattle.refusals.specs.Numbers.{why}
 use Rattle.line.specs.Record.{Rec, Kept, Asked}
@@ -73,6 +74,22 @@ latest_from l =
       d4a = then_some l.has4a l.d4a;
       d4b = then_some l.has4b l.d4b;
       deb = then_some l.haseb l.deb;
+    }
+
+-- today's latest messages with a flag each: zeros where there is none
+abbrev pub latest32_from : Latest → Latest32
+latest32_from l =
+    record {
+      has43 = is_some l.d43;
+      d43 = unwrap_or l.d43 (replicate 6 0);
+      has46 = is_some l.d46;
+      d46 = unwrap_or l.d46 (replicate 10 0);
+      has4a = is_some l.d4a;
+      d4a = unwrap_or l.d4a (replicate 33 0);
+      has4b = is_some l.d4b;
+      d4b = unwrap_or l.d4b (replicate 42 0);
+      haseb = is_some l.deb;
+      deb = unwrap_or l.deb (replicate 26 0);
     }
 
 abbrev pub same_parts : Reader32 → Reader

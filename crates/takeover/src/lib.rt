@@ -4,7 +4,7 @@
 ghost use Rattle.std.specs.Prelude.{◌≡◌, ◌≢◌};
 ghost use Rattle.refusals.specs.Numbers.{why};
 ghost use Rattle.questions.specs.Question.{Questions};
-ghost use Rattle.takeover.specs.Takeover.{head_of, latest_from, no_record, TakeOverPost};
+ghost use Rattle.takeover.specs.Takeover.{head_of, latest_from, latest32_from, no_record, TakeOverPost};
 
 use latest::Latest;
 use record::{Count, Head, Reader};
@@ -77,6 +77,28 @@ impl From<Latest32> for Latest {
             d4a: l.has4a.then_some(l.d4a),
             d4b: l.has4b.then_some(l.d4b),
             deb: l.haseb.then_some(l.deb),
+        }
+    }
+}
+
+// And back: the same latest messages, with zeros beside a flag that is false, as a fresh record had them.
+impl From<Latest> for Latest32 {
+    ghost from_gives = { λ l t. t ≡ latest32_from l };
+
+    fn from(l: Latest) -> Latest32
+        ensures { result ≡ latest32_from l }
+    {
+        Latest32 {
+            has43: l.d43.is_some(),
+            d43: l.d43.unwrap_or([0; 6]),
+            has46: l.d46.is_some(),
+            d46: l.d46.unwrap_or([0; 10]),
+            has4a: l.d4a.is_some(),
+            d4a: l.d4a.unwrap_or([0; 33]),
+            has4b: l.d4b.is_some(),
+            d4b: l.d4b.unwrap_or([0; 42]),
+            haseb: l.deb.is_some(),
+            deb: l.deb.unwrap_or([0; 26]),
         }
     }
 }
